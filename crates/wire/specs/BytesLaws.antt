@@ -1,0 +1,203 @@
+-- Laws of runs of bytes and their numbers, most of them byte by byte.
+use mathlib.Core.Path.{_≡_, refl, sym, ap, ap₂, _∙_}
+use mathlib.Core.Bool.{Bool, true, false, _&&_}
+use Prim.Native.Nat.{ℕ, zero, suc, _+_, _-_, _*_, _/_, _%_, _≤_, _<_, min}
+use native.Mathlib.Omega.{arith}
+use native.Mathlib.Nat.{add-zero, le-of-suc-le-suc, div-div-eq-div-mul, div-add-mod'}
+use native.Mathlib.Numerals.{add-one}
+use mathlib.Core.List.{List, [], _∷_, _++_, append-assoc}
+use lib.ListN.{length, take, drop, set, getD, replicate, length-set, length-append, length-take, length-drop, length-replicate, replicate-append-replicate, drop-of-length-le}
+use lib.Seq.{getD-take, getD-drop, ext-getD, sets, sets-eq, drop-cons}
+use lib.Dec.{eqb}
+use borrow.Author.Tests.{eq-eqb, eqb-true}
+use Rattle.wire.specs.Bytes.{part, over, get16, get32, bytes16, bytes32, equal, blank}
+use Rattle.wire.specs.Cases.{by-test, both, never, and-true}
+
+-- ---- part
+
+pub length-part : (l : List ℕ) (at n : ℕ) → at + n ≤ length l → length (part l at n) ≡ n
+unfolding part
+length-part l at n g = simp (length-take, length-drop) (omega arith)
+
+pub part-at : (l : List ℕ) (at n i : ℕ) → i < n → getD (part l at n) i 0 ≡ getD l (at + i) 0
+unfolding part
+part-at l at n i g = rw (getD-take, getD-drop)
+
+long-part : (l : List ℕ) (at n : ℕ) → length (part l at n) ≡ min n (length l - at)
+unfolding part
+long-part l at n = rw (length-take, length-drop)
+
+-- a part depends on its own bytes only
+pub part-same : (l l' : List ℕ) (at n : ℕ) → length l' ≡ length l → ((i : ℕ) → at ≤ i → i < at + n → getD l' i 0 ≡ getD l i 0)
+    → part l' at n ≡ part l at n
+part-same l l' at n e f =
+    ext-getD 0 (part l' at n) (part l at n) (omega (arith, long-part l' at n, long-part l at n))
+    (λ i g. let h : i < n = omega (arith, long-part l' at n) in part-at l' at n i h ∙ f (at + i) (omega arith) (omega arith) ∙ sym (part-at l at n i h))
+
+-- ---- over
+
+pub length-over : (l : List ℕ) (at : ℕ) (bs : List ℕ) → length (over l at bs) ≡ length l
+unfolding over
+length-over [] at bs = refl
+length-over (x ∷ l) zero [] = refl
+length-over (x ∷ l) zero (b ∷ bs) = ap suc (length-over l zero bs)
+length-over (x ∷ l) (suc at) bs = ap suc (length-over l at bs)
+
+pub over-low : (l : List ℕ) (at : ℕ) (bs : List ℕ) (i : ℕ) → i < at → getD (over l at bs) i 0 ≡ getD l i 0
+unfolding over
+over-low [] at bs i g = refl
+over-low (x ∷ l) zero bs i g = absurd (omega arith)
+over-low (x ∷ l) (suc at) bs zero g = refl
+over-low (x ∷ l) (suc at) bs (suc i) g = over-low l at bs i (le-of-suc-le-suc g)
+
+pub over-in : (l : List ℕ) (at : ℕ) (bs : List ℕ) (i : ℕ) → i < length bs → at + i < length l → getD (over l at bs) (at + i) 0 ≡ getD bs i 0
+unfolding over
+over-in [] at bs i g h = absurd (omega arith)
+over-in (x ∷ l) zero [] i g h = absurd (omega arith)
+over-in (x ∷ l) zero (b ∷ bs) zero g h = refl
+over-in (x ∷ l) zero (b ∷ bs) (suc i) g h =
+    let e : zero + suc i ≡ suc (zero + i) = omega arith in rw e (over-in l zero bs i (le-of-suc-le-suc g) (omega arith))
+over-in (x ∷ l) (suc at) bs i g h = let e : suc at + i ≡ suc (at + i) = omega arith in rw e (over-in l at bs i g (omega arith))
+
+pub over-high : (l : List ℕ) (at : ℕ) (bs : List ℕ) (i : ℕ) → at + length bs ≤ i → getD (over l at bs) i 0 ≡ getD l i 0
+unfolding over
+over-high [] at bs i g = refl
+over-high (x ∷ l) zero [] i g = refl
+over-high (x ∷ l) zero (b ∷ bs) zero g = absurd (omega arith)
+over-high (x ∷ l) zero (b ∷ bs) (suc i) g = over-high l zero bs i (omega arith)
+over-high (x ∷ l) (suc at) bs zero g = absurd (omega arith)
+over-high (x ∷ l) (suc at) bs (suc i) g = over-high l at bs i (omega arith)
+
+pub over-nil : (l : List ℕ) (at : ℕ) → over l at [] ≡ l
+unfolding over
+over-nil [] at = refl
+over-nil (x ∷ l) zero = refl
+over-nil (x ∷ l) (suc at) = ap (_∷_ x) (over-nil l at)
+
+-- one byte stored at the start
+pub over-cons : (l : List ℕ) (at b : ℕ) (bs : List ℕ) → over (set l at b) (suc at) bs ≡ over l at (b ∷ bs)
+unfolding over
+over-cons [] at b bs = refl
+over-cons (x ∷ l) zero b bs = refl
+over-cons (x ∷ l) (suc at) b bs = ap (_∷_ x) (over-cons l at b bs)
+
+-- one byte stored at the end
+pub over-snoc : (l : List ℕ) (at : ℕ) (bs : List ℕ) (b : ℕ) → set (over l at bs) (at + length bs) b ≡ over l at (bs ++ (b ∷ []))
+unfolding over
+over-snoc [] at bs b = refl
+over-snoc (x ∷ l) zero [] b = ap (_∷_ b) (sym (over-nil l zero))
+over-snoc (x ∷ l) zero (c ∷ bs) b = let e : zero + suc (length bs) ≡ suc (zero + length bs) = omega arith in rw e (ap (_∷_ c) (over-snoc l zero bs b))
+over-snoc (x ∷ l) (suc at) bs b = let e : suc at + length bs ≡ suc (at + length bs) = omega arith in rw e (ap (_∷_ x) (over-snoc l at bs b))
+
+-- stores one after the other
+pub over-sets : (l : List ℕ) (at : ℕ) (bs : List ℕ) → sets l at bs ≡ over l at bs
+over-sets l at [] = sym (over-nil l at)
+over-sets l at (b ∷ bs) = over-sets (set l at b) (suc at) bs ∙ over-cons l at b bs
+
+-- what stands before, the bytes, and what stands behind
+pub over-is : (l : List ℕ) (at : ℕ) (bs : List ℕ) → at + length bs ≤ length l → over l at bs ≡ take at l ++ (bs ++ drop (at + length bs) l)
+over-is l at bs g = sym (over-sets l at bs) ∙ sets-eq bs l at g ∙ append-assoc (take at l) bs (drop (at + length bs) l)
+
+-- the bytes read back
+pub part-over : (l : List ℕ) (at : ℕ) (bs : List ℕ) → at + length bs ≤ length l → part (over l at bs) at (length bs) ≡ bs
+part-over l at bs g =
+    let e : length (part (over l at bs) at (length bs)) ≡ length bs = length-part (over l at bs) at (length bs) (rw length-over g) in
+    ext-getD 0 (part (over l at bs) at (length bs)) bs e
+    (λ i h. let k : i < length bs = omega arith in part-at (over l at bs) at (length bs) i k ∙ over-in l at bs i k (omega arith))
+
+-- ---- equal, blank
+
+pub equal-refl : (xs : List ℕ) → equal xs xs ≡ true
+unfolding equal
+equal-refl [] = refl
+equal-refl (x ∷ xs) = rw (eq-eqb x x refl, equal-refl xs)
+
+pub equal-is : (xs ys : List ℕ) → equal xs ys ≡ true → xs ≡ ys
+unfolding equal
+equal-is [] [] e = refl
+equal-is [] (y ∷ ys) e = never e
+equal-is (x ∷ xs) [] e = never e
+equal-is (x ∷ xs) (y ∷ ys) e =
+    let a = both (eqb x y) (equal xs ys) e in
+    ap₂ (λ (z : ℕ) (zs : List ℕ). z ∷ zs) (eqb-true x y (a .0)) (equal-is xs ys (a .1))
+
+pub blank-zeros : (n : ℕ) → blank (replicate n 0) ≡ true
+unfolding blank
+blank-zeros zero = refl
+blank-zeros (suc n) = blank-zeros n
+
+pub blank-is : (xs : List ℕ) → blank xs ≡ true → xs ≡ replicate (length xs) 0
+unfolding blank
+blank-is [] e = refl
+blank-is (x ∷ xs) e =
+    let a = both (eqb x 0) (blank xs) e in
+    ap₂ (λ (z : ℕ) (zs : List ℕ). z ∷ zs) (eqb-true x 0 (a .0)) (blank-is xs (a .1))
+
+-- ---- numbers
+
+-- a number of 2 bytes depends on those alone
+pub get16-same : (l l' : List ℕ) (at : ℕ) → getD l' at 0 ≡ getD l at 0 → getD l' (at + 1) 0 ≡ getD l (at + 1) 0 → get16 l' at ≡ get16 l at
+unfolding get16
+get16-same l l' at e f = rw (e, f)
+
+-- the bytes of a number read back as it
+pub get16-over : (l : List ℕ) (at v : ℕ) → at + 1 < length l → v < 65536 → get16 (over l at (bytes16 v)) at ≡ v
+unfolding get16 bytes16
+get16-over l at v g h =
+    let bs : List ℕ = v / 256 % 256 ∷ v % 256 ∷ [] in
+    let a : getD (over l at bs) at 0 ≡ v / 256 % 256 = rw (add-zero at) at (over-in l at bs 0 (omega arith) (omega arith)) in
+    let b : getD (over l at bs) (at + 1) 0 ≡ v % 256 = over-in l at bs 1 (omega arith) (omega arith) in
+    rw (a, b) (omega arith)
+
+-- digits in base 256 put together
+whole : (v : ℕ) → v < 4294967296 → v / 16777216 % 256 * 16777216 + v / 65536 % 256 * 65536 + v / 256 % 256 * 256 + v % 256 ≡ v
+whole v small =
+    let a : ℕ = v / 256 in
+    let b : ℕ = a / 256 in
+    let c : ℕ = b / 256 in
+    let eb : v / 65536 ≡ b = sym (div-div-eq-div-mul v 256 256) in
+    let ec : v / 16777216 ≡ c = sym (ap (λ (x : ℕ). x / 256) (div-div-eq-div-mul v 256 256) ∙ div-div-eq-div-mul v 65536 256) in
+    rw (ec, eb) (sum v a b c (v % 256) (a % 256) (b % 256) (div-add-mod' v 256) (div-add-mod' a 256) (div-add-mod' b 256) small)
+  where
+    sum : (v a b c x y z : ℕ) → a * 256 + x ≡ v → b * 256 + y ≡ a → c * 256 + z ≡ b → v < 4294967296 → c % 256 * 16777216 + z * 65536 + y * 256 + x ≡ v
+    sum v a b c x y z p q r s = let e : c % 256 ≡ c = omega arith in omega arith
+
+pub get32-over : (l : List ℕ) (at v : ℕ) → at + 3 < length l → v < 4294967296 → get32 (over l at (bytes32 v)) at ≡ v
+unfolding get32 bytes32
+get32-over l at v g h =
+    let bs : List ℕ = v / 16777216 % 256 ∷ v / 65536 % 256 ∷ v / 256 % 256 ∷ v % 256 ∷ [] in
+    let a : getD (over l at bs) at 0 ≡ v / 16777216 % 256 = rw (add-zero at) at (over-in l at bs 0 (omega arith) (omega arith)) in
+    let b : getD (over l at bs) (at + 1) 0 ≡ v / 65536 % 256 = over-in l at bs 1 (omega arith) (omega arith) in
+    let c : getD (over l at bs) (at + 2) 0 ≡ v / 256 % 256 = over-in l at bs 2 (omega arith) (omega arith) in
+    let d : getD (over l at bs) (at + 3) 0 ≡ v % 256 = over-in l at bs 3 (omega arith) (omega arith) in
+    rw (a, b, c, d) (whole v h)
+
+-- ---- one turn of a loop over the bytes
+
+pub fill-more : (l : List ℕ) (at i b : ℕ) → set (over l at (replicate i b)) (at + i) b ≡ over l at (replicate (i + 1) b)
+fill-more l at i b =
+    ap (λ (k : ℕ). set (over l at (replicate i b)) (at + k) b) (sym (length-replicate i b))
+    ∙ over-snoc l at (replicate i b) b
+    ∙ ap (over l at) (replicate-append-replicate i 1 b)
+
+pub equal-step : (ok : Bool) (xs ys : List ℕ) (i : ℕ) → i < length xs → i < length ys
+    → (ok && eqb (getD xs i 0) (getD ys i 0)) && equal (drop (i + 1) xs) (drop (i + 1) ys) ≡ ok && equal (drop i xs) (drop i ys)
+unfolding equal
+equal-step false xs ys i g h = refl
+equal-step true xs ys i g h = rw (add-one, drop-cons xs i 0 g, drop-cons ys i 0 h)
+
+pub equal-end : (ok : Bool) (xs ys : List ℕ) (i : ℕ) → length xs ≤ i → length xs ≡ length ys → ok && equal (drop i xs) (drop i ys) ≡ ok
+unfolding equal
+equal-end ok xs ys i g e = rw (drop-of-length-le xs {i = i} g, drop-of-length-le ys {i = i} (omega arith)) (and-true ok)
+
+pub equal-length : (xs ys : List ℕ) → (length xs ≡ length ys → ⊥) → equal xs ys ≡ false
+equal-length xs ys f = by-test (equal xs ys) (λ e. absurd (f (ap length (equal-is xs ys e)))) (λ e. e)
+
+pub blank-step : (ok : Bool) (xs : List ℕ) (i : ℕ) → i < length xs → (ok && eqb (getD xs i 0) 0) && blank (drop (i + 1) xs) ≡ ok && blank (drop i xs)
+unfolding blank
+blank-step false xs i g = refl
+blank-step true xs i g = rw (add-one, drop-cons xs i 0 g)
+
+pub blank-end : (ok : Bool) (xs : List ℕ) (i : ℕ) → length xs ≤ i → ok && blank (drop i xs) ≡ ok
+unfolding blank
+blank-end ok xs i g = rw (drop-of-length-le xs {i = i} g) (and-true ok)
