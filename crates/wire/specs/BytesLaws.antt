@@ -5,9 +5,9 @@ use Prim.Native.Nat.{ℕ, zero, suc, _+_, _-_, _*_, _/_, _%_, _≤_, _<_, min}
 use native.Mathlib.Omega.{arith}
 use native.Mathlib.Nat.{add-zero, le-of-suc-le-suc, div-div-eq-div-mul, div-add-mod'}
 use native.Mathlib.Numerals.{add-one}
-use mathlib.Core.List.{List, [], _∷_, _++_, append-assoc}
-use lib.ListN.{length, take, drop, set, getD, replicate, length-set, length-append, length-take, length-drop, length-replicate, replicate-append-replicate, drop-of-length-le}
-use lib.Seq.{getD-take, getD-drop, ext-getD, sets, sets-eq, drop-cons}
+use mathlib.Core.List.{List, [], _∷_, _++_, append-assoc, append-nil}
+use lib.ListN.{length, take, drop, set, getD, replicate, length-set, length-append, length-take, length-drop, length-replicate, replicate-append-replicate, drop-of-length-le, take-append-drop}
+use lib.Seq.{getD-take, getD-drop, ext-getD, sets, sets-eq, drop-cons, drop-drop, take-suc, length-take-le}
 use lib.Dec.{eqb}
 use borrow.Author.Tests.{eq-eqb, eqb-true}
 use Rattle.wire.specs.Bytes.{part, over, get16, get32, bytes16, bytes32, equal, blank}
@@ -26,6 +26,15 @@ part-at l at n i g = rw (getD-take, getD-drop)
 long-part : (l : List ℕ) (at n : ℕ) → length (part l at n) ≡ min n (length l - at)
 unfolding part
 long-part l at n = rw (length-take, length-drop)
+
+-- a part as a slice's ends give it, and a part of what lies from h on
+pub part-of : (l : List ℕ) (at n : ℕ) → take (at + n - at) (drop at l) ≡ part l at n
+unfolding part
+part-of l at n = let e : at + n - at ≡ n = omega arith in rw e
+
+pub part-drop : (l : List ℕ) (h at n : ℕ) → part (drop h l) at n ≡ part l (h + at) n
+unfolding part
+part-drop l h at n = rw drop-drop
 
 -- a part depends on its own bytes only
 pub part-same : (l l' : List ℕ) (at n : ℕ) → length l' ≡ length l → ((i : ℕ) → at ≤ i → i < at + n → getD l' i 0 ≡ getD l i 0)
@@ -98,6 +107,25 @@ over-sets l at (b ∷ bs) = over-sets (set l at b) (suc at) bs ∙ over-cons l a
 pub over-is : (l : List ℕ) (at : ℕ) (bs : List ℕ) → at + length bs ≤ length l → over l at bs ≡ take at l ++ (bs ++ drop (at + length bs) l)
 over-is l at bs g = sym (over-sets l at bs) ∙ sets-eq bs l at g ∙ append-assoc (take at l) bs (drop (at + length bs) l)
 
+pub over-whole : (l bs : List ℕ) → length bs ≡ length l → over l 0 bs ≡ bs
+over-whole l bs e =
+    over-is l 0 bs (omega arith) ∙ ap (λ (z : List ℕ). bs ++ z) (drop-of-length-le l {i = 0 + length bs} (omega arith)) ∙ append-nil bs
+
+-- bytes written in a part are written in the whole
+over-front : (k : ℕ) (l bs : List ℕ) → length bs ≤ k → k ≤ length l → over (take k l) 0 bs ++ drop k l ≡ over l 0 bs
+unfolding over
+over-front zero l [] g h = sym (over-nil l 0)
+over-front zero l (b ∷ bs) g h = absurd (omega arith)
+over-front (suc k) [] bs g h = absurd (omega arith)
+over-front (suc k) (x ∷ l) [] g h = ap (_∷_ x) (take-append-drop k l)
+over-front (suc k) (x ∷ l) (b ∷ bs) g h = ap (_∷_ b) (over-front k l bs (omega arith) (omega arith))
+
+pub over-part : (at k : ℕ) (l bs : List ℕ) → length bs ≤ k → at + k ≤ length l → take at l ++ (over (take k (drop at l)) 0 bs ++ drop k (drop at l)) ≡ over l at bs
+unfolding over
+over-part zero k l bs g h = over-front k l bs g (omega arith)
+over-part (suc at) k [] bs g h = absurd (omega arith)
+over-part (suc at) k (x ∷ l) bs g h = ap (_∷_ x) (over-part at k l bs g (omega arith))
+
 -- the bytes read back
 pub part-over : (l : List ℕ) (at : ℕ) (bs : List ℕ) → at + length bs ≤ length l → part (over l at bs) at (length bs) ≡ bs
 part-over l at bs g =
@@ -140,6 +168,14 @@ pub get16-same : (l l' : List ℕ) (at : ℕ) → getD l' at 0 ≡ getD l at 0 �
 unfolding get16
 get16-same l l' at e f = rw (e, f)
 
+pub length-bytes16 : (v : ℕ) → length (bytes16 v) ≡ 2
+unfolding bytes16
+length-bytes16 v = refl
+
+pub length-bytes32 : (v : ℕ) → length (bytes32 v) ≡ 4
+unfolding bytes32
+length-bytes32 v = refl
+
 -- the bytes of a number read back as it
 pub get16-over : (l : List ℕ) (at v : ℕ) → at + 1 < length l → v < 65536 → get16 (over l at (bytes16 v)) at ≡ v
 unfolding get16 bytes16
@@ -179,6 +215,17 @@ fill-more l at i b =
     ap (λ (k : ℕ). set (over l at (replicate i b)) (at + k) b) (sym (length-replicate i b))
     ∙ over-snoc l at (replicate i b) b
     ∙ ap (over l at) (replicate-append-replicate i 1 b)
+
+pub take-replicate : (i n b : ℕ) → i ≤ n → take i (replicate n b) ≡ replicate i b
+take-replicate zero n b g = refl
+take-replicate (suc i) zero b g = absurd (omega arith)
+take-replicate (suc i) (suc n) b g = ap (_∷_ b) (take-replicate i n b (omega arith))
+
+pub over-take : (l : List ℕ) (at : ℕ) (bs : List ℕ) (i : ℕ) → i < length bs → set (over l at (take i bs)) (at + i) (getD bs i 0) ≡ over l at (take (i + 1) bs)
+over-take l at bs i g =
+    ap (λ (k : ℕ). set (over l at (take i bs)) (at + k) (getD bs i 0)) (sym (length-take-le i bs (omega arith)))
+    ∙ over-snoc l at (take i bs) (getD bs i 0)
+    ∙ rw add-one (ap (over l at) (sym (take-suc bs i 0 g)))
 
 pub equal-step : (ok : Bool) (xs ys : List ℕ) (i : ℕ) → i < length xs → i < length ys
     → (ok && eqb (getD xs i 0) (getD ys i 0)) && equal (drop (i + 1) xs) (drop (i + 1) ys) ≡ ok && equal (drop i xs) (drop i ys)

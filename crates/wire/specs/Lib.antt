@@ -1,3 +1,4 @@
 pub mod Bytes
 pub mod Cases
 pub mod BytesLaws
+pub mod All

@@ -1,0 +1,197 @@
+-- What each return of format, commit and recover answers and leaves.
+use mathlib.Core.Path.{_≡_, refl, sym, ap, ap₂, _∙_}
+use mathlib.Core.Bool.{Bool, true, false, _&&_}
+use Prim.Native.Nat.{ℕ, zero, suc, _+_, _-_, _*_, _≤_, _<_}
+use native.Mathlib.Omega.{arith}
+use mathlib.Core.List.{List, [], _∷_, _++_, append-assoc}
+use lib.ListN.{length, take, drop, replicate, length-append, length-drop, length-replicate}
+use lib.Seq.{take-nil, drop-append-le}
+use lib.Dec.{leb, eqb}
+use borrow.Author.Tests.{le-leb, lt-leb, eq-eqb, ne-eqb}
+use Rattle.wire.specs.Bytes.{pick, over, bytes16}
+use Rattle.wire.specs.BytesLaws.{length-bytes16}
+use Rattle.wire.specs.Cases.{by-test, and-false}
+use Rattle.wire.specs.All.{All, all-map}
+use Rattle.log.specs.declared.Head.{Head}
+use Rattle.log.specs.declared.Head.the-variants.{Bad, Clear, Committed}
+use Rattle.log.specs.declared.Outcome.the-variants.{Done, Cut, Refused}
+use Rattle.log.specs.Store.{Store, apply, run}
+use Rattle.log.specs.StoreLaws.{apply-none, length-run, run-append}
+use Rattle.log.specs.Image.{letters, capacity, recordPages, count, mark, pages, homeAt, home, inRange, imageLength, headOk, headOf}
+use Rattle.log.specs.ImageLaws.{Right, head-right}
+use Rattle.log.specs.Entry.{Entry, entryAt, entries, rising, changes}
+use Rattle.log.specs.EntryLaws.{Long, Whole, entries-long, length-entries, changes-whole, changes-few, rising-below}
+use Rattle.log.specs.Stage.{Stage, stage-more, stage-stopped, stage-whole, stage-answer}
+use Rattle.log.specs.Calls.{Plan, refuse, store, answer, after, unless, atHead, headPage, emptyImage, formatStores, formatPlan, recoverStores, logOf, logOk, logStores, commitStores, changed, committedPlan, recoverPlan, clearPlan, commitPlan, anyBytes}
+use Rattle.log.specs.CallLaws.{length-recover, length-log, length-commit, commit-none, commit-is, log-entries}
+
+-- ---- any call
+
+pub refused-is : (p : Plan) (r n : ℕ) (l : List ℕ) → p ≡ refuse r → (Refused r ≡ answer p n) × (l ≡ after p n l)
+unfolding answer after
+refused-is p r n l e = rw e (refl, refl)
+
+pub nothing-is : (p : Plan) (n : ℕ) (l : List ℕ) → p ≡ store [] → (Done 0 ≡ answer p n) × (l ≡ after p n l)
+unfolding answer after
+nothing-is p n l e = rw (e, take-nil, le-leb 0 n (omega arith)) (refl, sym (apply-none l))
+
+-- ---- recover, with the mark set
+
+module _ (l : List ℕ) where
+  pub none-logged : count l ≡ 0 → committedPlan l ≡ refuse 4
+  unfolding committedPlan logOk
+  none-logged e = rw e
+
+  pub over-logged : capacity l < count l → committedPlan l ≡ refuse 4
+  unfolding committedPlan logOk
+  over-logged g = rw (lt-leb (count l) (capacity l) g, and-false)
+
+  pub mixed-logged : rising 0 (pages l) (logOf l) ≡ false → committedPlan l ≡ refuse 4
+  unfolding committedPlan logOk
+  mixed-logged e = rw (e, and-false)
+
+  pub well-logged : (count l ≡ 0 → ⊥) → count l ≤ capacity l → rising 0 (pages l) (logOf l) ≡ true → committedPlan l ≡ store (recoverStores (homeAt l) (logOf l))
+  unfolding committedPlan logOk
+  well-logged f g e = rw (le-leb 1 (count l) (omega arith), le-leb (count l) (capacity l) g, e)
+
+  -- each page has its place in the image
+  pub logged-inside : Right l → rising 0 (pages l) (logOf l) ≡ true → All (λ e. homeAt l + 64 * e .page + 64 ≤ length l) (logOf l)
+  logged-inside r e = all-map (λ x t. omega (arith, r .long)) (rising-below 0 (pages l) (logOf l) e)
+
+  -- its stores were made, as far as the allowance goes
+  pub recovered-is : {n n' m' : ℕ} {l' : List ℕ} (p : Plan) → p ≡ store (recoverStores (homeAt l) (logOf l)) → entryAt (count l) ≤ length l
+      → Stage n 0 (recoverStores (homeAt l) (logOf l)) l n' m' l'
+      → (pick (leb (64 * count l + 1) n) (Done m') (Cut m') ≡ answer p n) × (l' ≡ after p n l)
+  recovered-is p e g s =
+      let long = length-recover (homeAt l) (entries-long l 0 (count l) (omega arith)) ∙ ap (λ (k : ℕ). 64 * k + 1) (length-entries l 0 (count l)) in
+      rw e (stage-answer (64 * count l + 1) long s)
+
+-- ---- commit, with the mark clear
+
+module _ (l w : List ℕ) where
+  pub other-length : (length w ≡ 64 * pages l → ⊥) → clearPlan anyBytes l w ≡ refuse 6
+  unfolding clearPlan
+  other-length f = rw (ne-eqb (length w) (64 * pages l) f)
+
+  pub many-pages : length w ≡ 64 * pages l → capacity l < length (changed l w) → clearPlan anyBytes l w ≡ refuse 13
+  unfolding clearPlan
+  many-pages e g = rw (eq-eqb (length w) (64 * pages l) e, lt-leb (length (changed l w)) (capacity l) g)
+
+  pub few-pages-is : length w ≡ 64 * pages l → length (changed l w) ≤ capacity l → clearPlan anyBytes l w ≡ store (commitStores (homeAt l) (changed l w))
+  unfolding clearPlan
+  few-pages-is e g = rw (eq-eqb (length w) (64 * pages l) e, le-leb (length (changed l w)) (capacity l) g)
+
+  -- the pages as the code finds them, from the sizes that it read
+  pub changed-is : (L R : ℕ) → L ≡ capacity l → R ≡ recordPages l → changes (drop (64 + 66 * L) l) w (26 + R) ≡ changed l w
+  unfolding home
+  changed-is L R e f = rw (e, f)
+
+-- the stages of a commit's stores; H is home as it stands at h, q its number of pages
+module _ {n n₁ m₁ : ℕ} {l l₁ : List ℕ} (h q : ℕ) (w : List ℕ) (some : 0 < length (changes (drop h l) w q)) (fit : entryAt (length (changes (drop h l) w q)) ≤ length l)
+    (whole : All (Whole q) (changes (drop h l) w q)) (few : q < 65536) (s : Stage n 0 (logStores (changes (drop h l) w q)) l n₁ m₁ l₁) where
+  es : List Entry
+  es = changes (drop h l) w q
+
+  long : All Long es
+  unfolding es
+  long = all-map (λ e t. t .long) whole
+
+  -- no store is left once the log's were made, or were not
+  pub commit-stops : n₁ ≡ 0 → (Cut m₁ ≡ answer (store (commitStores h (changes (drop h l) w q))) n) × (l₁ ≡ after (store (commitStores h (changes (drop h l) w q))) n l)
+  unfolding es
+  commit-stops z =
+      let t : Stage n 0 (commitStores h es) l 0 m₁ l₁ = rw (commit-is h es some) (stage-more (rw z at s) (stage-stopped m₁ (recoverStores h es) l₁)) in
+      let less : n < 130 * length es + 4 = omega (arith, s .left, length-log long) in
+      rw (lt-leb (130 * length es + 4) n less) at (stage-answer (130 * length es + 4) (length-commit h es some long) t)
+
+  -- stores are left, so the log is whole
+  pub commit-reads : 0 < n₁ → entries l₁ 0 (length (changes (drop h l) w q)) ≡ changes (drop h l) w q
+  commit-reads g =
+      rw (stage-whole s g)
+      (log-entries l (all-map (λ e t. record { below = omega (arith, t .below); long = t .long }) whole) (omega (arith, changes-few (drop h l) w q)) fit)
+
+  pub commit-inside : 0 < n₁ → (N : ℕ) → h + 64 * q ≤ N → All (λ e. h + 64 * e .page + 64 ≤ N) (entries l₁ 0 (length (changes (drop h l) w q)))
+  commit-inside g N b = rw (commit-reads g) (all-map (λ e t. omega (arith, t .below)) whole)
+
+  pub commit-goes-on : {n₂ m₂ : ℕ} {l₂ : List ℕ} → 0 < n₁ → Stage n₁ m₁ (recoverStores h (entries l₁ 0 (length (changes (drop h l) w q)))) l₁ n₂ m₂ l₂
+      → (pick (leb (130 * length (changes (drop h l) w q) + 4) n) (Done m₂) (Cut m₂) ≡ answer (store (commitStores h (changes (drop h l) w q))) n)
+      × (l₂ ≡ after (store (commitStores h (changes (drop h l) w q))) n l)
+  unfolding es
+  commit-goes-on {n₂} {m₂} {l₂} g t =
+      let all : Stage n 0 (commitStores h es) l n₂ m₂ l₂ = rw (commit-is h es some) (stage-more s (rw (commit-reads g) at t)) in
+      stage-answer (130 * length es + 4) (length-commit h es some long) all
+
+-- ---- the head
+
+pub at-bad : (l : List ℕ) (r : ℕ) (clear committed : Plan) → headOf l ≡ Bad r → atHead (headOf l) clear committed ≡ refuse r
+at-bad l r clear committed e = rw e
+
+pub at-clear : (l : List ℕ) (clear committed : Plan) → headOf l ≡ Clear → atHead (headOf l) clear committed ≡ clear
+at-clear l clear committed e = rw e
+
+pub at-committed : (l : List ℕ) (clear committed : Plan) → headOf l ≡ Committed → atHead (headOf l) clear committed ≡ committed
+at-committed l clear committed e = rw e
+
+-- a mark was read, so the head is right
+module _ (l : List ℕ) where
+  known : (h : Head) → headOf l ≡ h → ((r : ℕ) → h ≡ Bad r → ⊥) → headOk l ≡ true
+  unfolding headOf
+  known h e f = by-test (headOk l) (λ t. t) (λ t. absurd (f 1 (sym e ∙ rw t)))
+
+  pub clear-ok : headOf l ≡ Clear → headOk l ≡ true
+  clear-ok e = known Clear e (λ r z. let x : _≡_ {A = ℕ} 0 1 = cc in omega arith)
+
+  pub committed-ok : headOf l ≡ Committed → headOk l ≡ true
+  committed-ok e = known Committed e (λ r z. let x : _≡_ {A = ℕ} 0 1 = cc in omega arith)
+
+-- ---- format
+
+pub head-made : (L R : ℕ) → over (over (over (replicate 64 0) 0 letters) 4 (bytes16 L)) 6 (bytes16 R) ≡ headPage L R
+unfolding over bytes16 headPage letters
+head-made L R = refl
+
+pub length-head : (L R : ℕ) → length (headPage L R) ≡ 64
+unfolding headPage letters bytes16
+length-head L R = refl
+
+pub length-empty : (L R : ℕ) → length (emptyImage L R) ≡ imageLength L R
+unfolding emptyImage
+length-empty L R = length-append (headPage L R) (replicate (imageLength L R - 64) 0) ∙ rw (length-head, length-replicate) (omega arith)
+
+pub length-format : (L R : ℕ) → length (formatStores L R) ≡ imageLength L R + 1
+unfolding formatStores run letters
+length-format L R =
+    let rest : length (run 1 (drop 1 (emptyImage L R))) ≡ imageLength L R - 1 = rw (length-run, length-drop, length-empty) in
+    omega (arith, length-append (run 1 (drop 1 (emptyImage L R))) (run 0 (67 ∷ [])))
+
+-- all bytes but the first: those of the head page, and zeros
+format-runs : (L R : ℕ) → run 1 (drop 1 (emptyImage L R)) ≡ run 1 (take 63 (drop 1 (headPage L R))) ++ run 64 (replicate (imageLength L R - 64) 0)
+unfolding emptyImage headPage letters bytes16
+format-runs L R = run-append 1 (drop 1 (headPage L R)) (replicate (imageLength L R - 64) 0)
+
+format-first : (L R : ℕ) → take 1 (drop 0 (headPage L R)) ≡ take 1 letters
+unfolding headPage letters
+format-first L R = refl
+
+pub format-stages : {n n₁ m₁ n₂ m₂ n₃ m₃ n₄ m₄ : ℕ} {l l₁ l₂ l₃ l₄ : List ℕ} (L R : ℕ)
+    → Stage n 0 (run 0 (0 ∷ [])) l n₁ m₁ l₁
+    → Stage n₁ m₁ (run 1 (take 63 (drop 1 (headPage L R)))) l₁ n₂ m₂ l₂
+    → Stage n₂ m₂ (run 64 (replicate (imageLength L R - 64) 0)) l₂ n₃ m₃ l₃
+    → Stage n₃ m₃ (run 0 (take 1 (drop 0 (headPage L R)))) l₃ n₄ m₄ l₄
+    → (pick (leb (imageLength L R + 1) n) (Done m₄) (Cut m₄) ≡ answer (store (formatStores L R)) n) × (l₄ ≡ after (store (formatStores L R)) n l)
+unfolding formatStores
+format-stages {n} {n₄ = n₄} {m₄ = m₄} {l} {l₄ = l₄} L R a b c d =
+    let all : Stage n 0 (formatStores L R) l n₄ m₄ l₄ = stage-more a (stage-more (rw (← format-runs L R) at (stage-more b c)) (rw (format-first L R) at d)) in
+    stage-answer (imageLength L R + 1) (length-format L R) all
+
+pub format-misfit : (l : List ℕ) (L R : ℕ) → inRange L R ≡ true → (length l ≡ imageLength L R → ⊥) → formatPlan l L R ≡ refuse 14
+unfolding formatPlan
+format-misfit l L R e f = rw (e, ne-eqb (length l) (imageLength L R) f)
+
+pub format-sizes : (l : List ℕ) (L R : ℕ) → inRange L R ≡ false → formatPlan l L R ≡ refuse 14
+unfolding formatPlan
+format-sizes l L R e = rw e
+
+pub format-fits : (l : List ℕ) (L R : ℕ) → inRange L R ≡ true → length l ≡ imageLength L R → formatPlan l L R ≡ store (formatStores L R)
+unfolding formatPlan
+format-fits l L R e f = rw (e, eq-eqb (length l) (imageLength L R) f)

@@ -1,0 +1,168 @@
+-- Laws of the calls' stores: how many they are, where they go, and what a whole log leaves.
+use mathlib.Core.Path.{_≡_, refl, sym, ap, ap₂, _∙_}
+use mathlib.Core.Bool.{Bool, true, false, _&&_}
+use mathlib.Core.Logic.{_⊎_, inl, inr, ⊎-elim}
+use Prim.Native.Nat.{ℕ, zero, suc, _+_, _-_, _*_, _≤_, _<_, min}
+use native.Mathlib.Omega.{arith}
+use native.Mathlib.Nat.{zero-add}
+use mathlib.Core.List.{List, [], _∷_, _++_, append-assoc}
+use lib.ListN.{length, take, drop, getD, length-append, length-take, length-drop}
+use lib.Seq.{take-all, take-append-le}
+use lib.Dec.{leb}
+use borrow.Author.Tests.{leb-true, le-leb}
+use Rattle.wire.specs.Bytes.{pick, over, get16, bytes16}
+use Rattle.wire.specs.BytesLaws.{get16-same, get16-over, length-bytes16, length-over, over-low, over-in, over-high}
+use Rattle.wire.specs.Cases.{both, by-test}
+use Rattle.wire.specs.All.{All, none, more, all-append, all-map, all-take}
+use Rattle.log.specs.declared.Outcome.the-variants.{Done, Cut}
+use Rattle.log.specs.Store.{Store, apply, run}
+use Rattle.log.specs.StoreLaws.{apply-append, length-apply, length-run, apply-run, apply-take-append, Go, go-run, kept, drop-kept}
+use Rattle.log.specs.Image.{capacity, recordPages, count, mark, pages, homeAt, home, headOk}
+use Rattle.log.specs.ImageLaws.{Fixed, SameHead, head-kept, capacity-same, pages-same, Right, length-home}
+use Rattle.log.specs.Entry.{Entry, entryAt, entries, rising, changes, logged, replay}
+use Rattle.log.specs.EntryLaws.{Long, Whole, entries-same, length-logged, length-replay, go-logged, go-replay, logged-reads, replay-home, home-becomes, changes-whole, changes-rising}
+use Rattle.log.specs.Calls.{clearMark, recoverStores, logOf, logOk, logStores, commitStores}
+
+-- ---- how many
+
+pub length-recover : (h : ℕ) {es : List Entry} → All Long es → length (recoverStores h es) ≡ 64 * length es + 1
+unfolding recoverStores clearMark run
+length-recover h {es} a = rw (length-append, length-replay h a)
+
+pub length-log : {es : List Entry} → All Long es → length (logStores es) ≡ 66 * length es + 3
+unfolding logStores bytes16 run
+length-log {es} a = rw (length-append, length-logged 0 a)
+
+pub commit-none : (h : ℕ) (es : List Entry) → length es ≡ 0 → commitStores h es ≡ []
+unfolding commitStores
+commit-none h [] e = refl
+commit-none h (x ∷ es) e = absurd (omega arith)
+
+pub commit-is : (h : ℕ) (es : List Entry) → 0 < length es → commitStores h es ≡ logStores es ++ recoverStores h es
+unfolding commitStores
+commit-is h [] g = absurd (omega arith)
+commit-is h (x ∷ es) g = refl
+
+pub length-commit : (h : ℕ) (es : List Entry) → 0 < length es → All Long es → length (commitStores h es) ≡ 130 * length es + 4
+length-commit h es g a = rw (commit-is h es g, length-append, length-log a, length-recover h a) (omega arith)
+
+-- ---- where
+
+unfixed : (a : ℕ) → ((8 ≤ a) × (a < 11)) ⊎ (64 ≤ a) → Fixed a → ⊥
+unfixed a (inl g) f = ⊎-elim (λ h. omega arith) (λ h. omega arith) f
+unfixed a (inr g) f = ⊎-elim (λ h. omega arith) (λ h. omega arith) f
+
+pub spare-recover : (h : ℕ) (es : List Entry) → 64 ≤ h → Go (λ a. Fixed a → ⊥) (recoverStores h es)
+unfolding recoverStores clearMark run
+spare-recover h es g =
+    all-append (all-map (λ s r. unfixed (s .at) (inr (omega arith))) (go-replay h es)) (more (unfixed 10 (inl (omega arith))) none)
+
+module _ {es : List Entry} (a : All Long es) where
+  pub spare-log : Go (λ a. Fixed a → ⊥) (logStores es)
+  unfolding logStores bytes16 run
+  spare-log =
+      all-append (all-map (λ s r. unfixed (s .at) (inr (omega arith))) (go-logged 0 a))
+      (more (unfixed 8 (inl (omega arith))) (more (unfixed 9 (inl (omega arith))) (more (unfixed 10 (inl (omega arith))) none)))
+
+  pub below-log : (h : ℕ) → entryAt (length es) ≤ h → Go (λ a. a < h) (logStores es)
+  unfolding logStores bytes16 run
+  below-log h g =
+      all-append (all-map (λ s r. omega arith) (go-logged 0 a))
+      (more (omega arith) (more (omega arith) (more (omega arith) none)))
+
+  -- before its last store the mark is not touched
+  pub log-unmarked : (n : ℕ) → n < 66 * length es + 3 → Go (λ a. a ≡ 10 → ⊥) (take n (logStores es))
+  unfolding logStores bytes16 run
+  log-unmarked n g =
+      let ss : List Store = logged 0 es ++ run 8 (bytes16 (length es)) in
+      let long : length ss ≡ 66 * length es + 2 = length-append (logged 0 es) (run 8 (bytes16 (length es))) ∙ ap (λ (k : ℕ). k + 2) (length-logged 0 a) in
+      let e : take n (logStores es) ≡ take n ss =
+      ap (take n) (sym (append-assoc (logged 0 es) (run 8 (bytes16 (length es))) (run 10 (165 ∷ [])))) ∙ take-append-le n ss (run 10 (165 ∷ [])) (omega arith) in
+      rw e (all-take n (all-append (all-map (λ s r q. omega arith) (go-logged 0 a)) (more (λ q. omega arith) (more (λ q. omega arith) none))))
+
+-- ---- the log in the image
+
+pub log-right : (l : List ℕ) → logOk l ≡ true → (1 ≤ count l) × (count l ≤ capacity l) × (rising 0 (pages l) (logOf l) ≡ true)
+unfolding logOk
+log-right l e =
+    let a = both (leb 1 (count l) && leb (count l) (capacity l)) (rising 0 (pages l) (logOf l)) e in
+    let b = both (leb 1 (count l)) (leb (count l) (capacity l)) (a .0) in
+    (leb-true _ _ (b .0), leb-true _ _ (b .1), a .1)
+
+-- where the bytes below home are the same, so are mark, count and log
+pub record SameBelow (l l' : List ℕ) : Type 0 where
+  pub head : SameHead l l'
+  pub bytes : (i : ℕ) → i < homeAt l → getD l' i 0 ≡ getD l i 0
+
+module _ {l l' : List ℕ} (s : SameBelow l l') where
+  pub mark-same : mark l' ≡ mark l
+  mark-same = s .bytes 10 (omega arith)
+
+  pub count-same : count l' ≡ count l
+  count-same = get16-same l l' 8 (s .bytes 8 (omega arith)) (s .bytes 9 (omega arith))
+
+  pub log-same : count l ≤ capacity l → logOf l' ≡ logOf l
+  log-same g = rw count-same (entries-same l l' 0 (count l) (s .head .long) (λ i a b. s .bytes i (omega arith)))
+
+  pub log-ok-same : count l ≤ capacity l → logOk l' ≡ logOk l
+  unfolding logOk
+  log-ok-same g = rw (count-same, capacity-same (s .head), pages-same (s .head), entries-same l l' 0 (count l) (s .head .long) (λ i a b. s .bytes i (omega arith)))
+
+-- a recovery cut before its last store leaves all below home
+pub recover-cut : (l : List ℕ) (es : List Entry) (n : ℕ) → All Long es → n ≤ 64 * length es → SameBelow l (apply (take n (recoverStores (homeAt l) es)) l)
+unfolding recoverStores
+recover-cut l es n a g =
+    let h : ℕ = homeAt l in
+    let e : take n (replay h es ++ clearMark) ≡ take n (replay h es) = take-append-le n (replay h es) clearMark (omega (arith, length-replay h a)) in
+    record {
+      head = head-kept l (all-take n (spare-recover h es (omega arith)));
+      bytes = λ i f. rw e (kept (λ a. h ≤ a) l i (all-take n (go-replay h es)) (λ b. omega arith));
+    }
+
+-- a whole one clears the mark
+pub recover-clears : (l : List ℕ) (h : ℕ) (es : List Entry) → 10 < length l → mark (apply (recoverStores h es) l) ≡ 0
+unfolding recoverStores clearMark
+recover-clears l h es g =
+    let x : List ℕ = apply (replay h es) l in
+    let e : apply (replay h es ++ run 10 (0 ∷ [])) l ≡ over x 10 (0 ∷ []) = apply-append (replay h es) (run 10 (0 ∷ [])) l ∙ apply-run 10 (0 ∷ []) x in
+    rw e (over-in x 10 (0 ∷ []) 0 (omega arith) (omega (arith, length-apply (replay h es) l)))
+
+-- ---- a whole log
+
+module _ (l : List ℕ) {es : List Entry} (a : All (Whole 65536) es) (few : length es < 65536) (fits : entryAt (length es) ≤ length l) where
+  x : List ℕ
+  x = apply (logged 0 es) l
+
+  y : List ℕ
+  y = over x 8 (bytes16 (length es))
+
+  long-x : length x ≡ length l
+  unfolding x
+  long-x = length-apply (logged 0 es) l
+
+  log-is : apply (logStores es) l ≡ over y 10 (165 ∷ [])
+  unfolding logStores x y
+  log-is =
+      apply-append (logged 0 es) (run 8 (bytes16 (length es)) ++ run 10 (165 ∷ [])) l
+      ∙ apply-append (run 8 (bytes16 (length es))) (run 10 (165 ∷ [])) (apply (logged 0 es) l)
+      ∙ apply-run 10 (165 ∷ []) (apply (run 8 (bytes16 (length es))) (apply (logged 0 es) l))
+      ∙ ap (λ (z : List ℕ). over z 10 (165 ∷ [])) (apply-run 8 (bytes16 (length es)) (apply (logged 0 es) l))
+
+  pub log-mark : mark (apply (logStores es) l) ≡ 165
+  unfolding y
+  log-mark = rw log-is (over-in y 10 (165 ∷ []) 0 (omega arith) (rw length-over (omega (arith, long-x))))
+
+  pub log-count : count (apply (logStores es) l) ≡ length es
+  unfolding y
+  log-count =
+      rw log-is
+      (get16-same y (over y 10 (165 ∷ [])) 8 (over-low y 10 (165 ∷ []) 8 (omega arith)) (over-low y 10 (165 ∷ []) 9 (omega arith))
+      ∙ get16-over x 8 (length es) (omega (arith, long-x)) few)
+
+  pub log-entries : entries (apply (logStores es) l) 0 (length es) ≡ es
+  unfolding x y
+  log-entries =
+      rw log-is
+      (entries-same x (over y 10 (165 ∷ [])) 0 (length es) (length-over y 10 (165 ∷ []) ∙ length-over x 8 (bytes16 (length es)))
+      (λ i b c. over-high y 10 (165 ∷ []) i (omega arith) ∙ over-high x 8 (bytes16 (length es)) i (omega (arith, length-bytes16 (length es))))
+      ∙ logged-reads 0 l a (omega arith))

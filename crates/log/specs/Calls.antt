@@ -1,0 +1,113 @@
+-- The calls that store: each is refused, or has one list of stores that an allowance cuts.
+use Prim.Native.Nat.{ℕ, _+_, _-_, _*_}
+use mathlib.Core.Bool.{Bool, true, false, _&&_}
+use mathlib.Core.List.{List, [], _∷_, _++_}
+use lib.ListN.{length, take, drop, replicate}
+use lib.Dec.{leb, eqb}
+use Rattle.wire.specs.Bytes.{pick, bytes16}
+use Rattle.log.specs.declared.Head.{Head}
+use Rattle.log.specs.declared.Head.the-variants.{Bad, Clear, Committed}
+use Rattle.log.specs.declared.Outcome.{Outcome}
+use Rattle.log.specs.declared.Outcome.the-variants.{Done, Cut, Refused}
+use Rattle.log.specs.Store.{Store, apply, run}
+use Rattle.log.specs.Image.{letters, capacity, count, pages, homeAt, home, inRange, imageLength, headOf}
+use Rattle.log.specs.Entry.{Entry, entries, rising, changes, logged, replay}
+
+-- what a call on given bytes comes to: its refusal, or all the stores that it needs
+pub data Plan : Type 0 where
+  refuse : ℕ → Plan
+  store : List Store → Plan
+
+-- An allowance of n lets exactly the first n stores happen. The answer is done or cut, with the number made;
+-- cut exactly if the whole needs more than n.
+unfoldable pub answer : Plan → ℕ → Outcome
+answer (refuse r) n = Refused r
+answer (store ss) n = pick (leb (length ss) n) (Done (length (take n ss))) (Cut (length (take n ss)))
+
+-- the bytes that it leaves; a refusal leaves all as they were
+unfoldable pub after : Plan → ℕ → List ℕ → List ℕ
+after (refuse r) n l = l
+after (store ss) n l = apply (take n ss) l
+
+-- refused with r unless the test holds
+abbrev pub unless : Bool → ℕ → Plan → Plan
+unless true r p = p
+unless false r p = refuse r
+
+-- by the head: refused with 1 or 2, or what is to be done with the mark clear and with it set
+abbrev pub atHead : Head → Plan → Plan → Plan
+atHead (Bad r) clear committed = refuse r
+atHead Clear clear committed = clear
+atHead Committed clear committed = committed
+
+-- ---- format
+
+-- an empty index: the head with entry count and mark 0, and zeros from byte 64 on
+unfoldable pub headPage : ℕ → ℕ → List ℕ
+headPage L R = letters ++ (bytes16 L ++ (bytes16 R ++ replicate 56 0))
+
+unfoldable pub emptyImage : ℕ → ℕ → List ℕ
+emptyImage L R = headPage L R ++ replicate (imageLength L R - 64) 0
+
+-- byte 0 as 0 first, then all other bytes from 1 up, then byte 0 as its letter
+unfoldable pub formatStores : ℕ → ℕ → List Store
+formatStores L R = run 0 (0 ∷ []) ++ (run 1 (drop 1 (emptyImage L R)) ++ run 0 (take 1 letters))
+
+unfoldable pub formatPlan : List ℕ → ℕ → ℕ → Plan
+formatPlan l L R = unless (inRange L R && eqb (length l) (imageLength L R)) 14 (store (formatStores L R))
+
+-- ---- recover
+
+-- mark 0
+unfoldable pub clearMark : List Store
+clearMark = run 10 (0 ∷ [])
+
+-- the entries' pages to home in order, then mark 0
+unfoldable pub recoverStores : ℕ → List Entry → List Store
+recoverStores h es = replay h es ++ clearMark
+
+-- the entries that the count names
+abbrev pub logOf : List ℕ → List Entry
+logOf l = entries l 0 (count l)
+
+-- the count is 1 to L, the page numbers are below 26 + R and each is above the one before
+unfoldable pub logOk : List ℕ → Bool
+logOk l = leb 1 (count l) && leb (count l) (capacity l) && rising 0 (pages l) (logOf l)
+
+-- with the mark set
+unfoldable pub committedPlan : List ℕ → Plan
+committedPlan l = unless (logOk l) 4 (store (recoverStores (homeAt l) (logOf l)))
+
+unfoldable pub recoverPlan : List ℕ → Plan
+recoverPlan l = atHead (headOf l) (store []) (committedPlan l)
+
+-- ---- commit
+
+-- each page's log entry, the two count bytes, mark 165
+unfoldable pub logStores : List Entry → List Store
+logStores es = logged 0 es ++ (run 8 (bytes16 (length es)) ++ run 10 (165 ∷ []))
+
+-- then each page to home, mark 0: which is what a recovery of that log does. None if no page differs
+unfoldable pub commitStores : ℕ → List Entry → List Store
+commitStores h [] = []
+commitStores h (e ∷ es) = logStores (e ∷ es) ++ recoverStores h (e ∷ es)
+
+-- the k pages in which the workspace differs from home, rising
+abbrev pub changed : List ℕ → List ℕ → List Entry
+changed l w = changes (home l) w (pages l)
+
+-- with the mark clear; 5 and 7 go by a test of home bytes and workspace that the caller has
+unfoldable pub clearPlan : (List ℕ → Bool) → List ℕ → List ℕ → Plan
+clearPlan accept l w =
+    unless (accept (home l)) 5
+    (unless (eqb (length w) (64 * pages l)) 6
+    (unless (accept w) 7
+    (unless (leb (length (changed l w)) (capacity l)) 13
+    (store (commitStores (homeAt l) (changed l w))))))
+
+unfoldable pub commitPlan : (List ℕ → Bool) → List ℕ → List ℕ → Plan
+commitPlan accept l w = atHead (headOf l) (clearPlan accept l w) (refuse 3)
+
+-- the test of a log that knows pages only
+abbrev pub anyBytes : List ℕ → Bool
+anyBytes x = true

@@ -1,0 +1,16 @@
+pub mod Store
+pub mod StoreLaws
+pub mod Image
+pub mod ImageLaws
+pub mod Entry
+pub mod EntryLaws
+pub mod Calls
+pub mod CallLaws
+pub mod Stage
+pub mod Turns
+pub mod Answers
+pub mod Book
+pub mod Holds
+pub mod Steps
+pub mod Claim
+pub mod Kept

@@ -1,0 +1,65 @@
+-- A stage of a call: some of its stores, with stores left and made before and after.
+use mathlib.Core.Path.{_≡_, sym, ap, _∙_}
+use Prim.Native.Nat.{ℕ, _+_, _-_, _≤_, _<_, min}
+use native.Mathlib.Decide.{decLe}
+use native.Mathlib.Nat.{min-eq-left, min-eq-right}
+use native.Mathlib.Omega.{arith}
+use mathlib.Core.List.{List, [], _++_}
+use lib.ListN.{length, take, length-append, length-take}
+use lib.Seq.{take-nil, take-all, take-length}
+use lib.Dec.{leb}
+use borrow.Author.Tests.{le-leb, lt-leb}
+use Rattle.wire.specs.Bytes.{pick, over}
+use Rattle.log.specs.declared.Outcome.{Outcome}
+use Rattle.log.specs.declared.Outcome.the-variants.{Done, Cut, Refused}
+use Rattle.log.specs.Store.{Store, apply, run}
+use Rattle.log.specs.StoreLaws.{apply-none, apply-take-append, apply-take-run, length-run}
+use Rattle.log.specs.Calls.{Plan, store, answer, after}
+
+-- n stores were left and m made before the stores ss, n' and m' after: the first n of them were made on l, which is then l'
+pub record Stage (n m : ℕ) (ss : List Store) (l : List ℕ) (n' m' : ℕ) (l' : List ℕ) : Type 0 where
+  pub left : n' ≡ n - length ss
+  pub made : m' ≡ m + min n (length ss)
+  pub bytes : l' ≡ apply (take n ss) l
+
+pub stage-none : (n m : ℕ) (l : List ℕ) → Stage n m [] l n m l
+stage-none n m l = record { left = omega arith; made = omega arith; bytes = rw take-nil (sym (apply-none l)) }
+
+-- with no store left, none is made
+pub stage-stopped : (m : ℕ) (ss : List Store) (l : List ℕ) → Stage 0 m ss l 0 m l
+stage-stopped m ss l = record { left = omega arith; made = omega arith; bytes = sym (apply-none l) }
+
+-- one stage after another
+pub stage-more : {n m n₁ m₁ n₂ m₂ : ℕ} {ss ts : List Store} {l l₁ l₂ : List ℕ}
+    → Stage n m ss l n₁ m₁ l₁ → Stage n₁ m₁ ts l₁ n₂ m₂ l₂ → Stage n m (ss ++ ts) l n₂ m₂ l₂
+stage-more {n} {ss} {ts} {l} f g = record {
+  left = rw length-append (omega arith);
+  made = rw length-append (omega arith);
+  bytes = g .bytes ∙ rw (f .left, f .bytes) (sym (apply-take-append n ss ts l));
+}
+
+pub take-min : {A : Type 0} (n : ℕ) (xs : List A) → take (min n (length xs)) xs ≡ take n xs
+take-min n xs = elim (decLe n (length xs)) [
+  | yes h ↦ rw (min-eq-left h)
+  | no h ↦ let k : length xs ≤ n = omega arith in rw (min-eq-right k, take-all n xs k) (take-length xs)
+]
+
+-- as many bytes of a run were written as there are or as were left
+pub stage-run : (n m i a : ℕ) (bs l l' : List ℕ) → i ≡ min n (length bs) → l' ≡ over l a (take i bs) → Stage n m (run a bs) l (n - i) (m + i) l'
+stage-run n m i a bs l l' e h = record {
+  left = rw length-run (omega arith);
+  made = rw length-run (ap (λ (k : ℕ). m + k) e);
+  bytes = h ∙ ap (over l a) (ap (λ (k : ℕ). take k bs) e ∙ take-min n bs) ∙ sym (apply-take-run n a bs l);
+}
+
+-- stores are left, so all of ss were made
+pub stage-whole : {n m n' m' : ℕ} {ss : List Store} {l l' : List ℕ} → Stage n m ss l n' m' l' → 0 < n' → l' ≡ apply ss l
+stage-whole {n} {ss} {l} s g = s .bytes ∙ ap (λ (z : List Store). apply z l) (take-all n ss (omega arith))
+
+-- the whole call's stores as one stage: its answer and the bytes it leaves
+pub stage-answer : {n n' m' : ℕ} {ss : List Store} {l l' : List ℕ} (need : ℕ) → length ss ≡ need → Stage n 0 ss l n' m' l'
+    → (pick (leb need n) (Done m') (Cut m') ≡ answer (store ss) n) × (l' ≡ after (store ss) n l)
+unfolding answer after
+stage-answer {n} {ss} need e s =
+    let made : _≡_ {A = ℕ} _ (length (take n ss)) = s .made ∙ rw (length-take n ss) (omega arith) in
+    (rw (← e, made), s .bytes)

@@ -1,0 +1,158 @@
+// Log entries: checking, replaying and writing them.
+use crate::meter;
+use crate::meter::Meter;
+ghost use mathlib.Core.Path.{_≡_};
+ghost use mathlib.Core.List.{_∷_, []};
+ghost use Prim.Native.Nat.{_+_, _*_, _≤_, _<_, _^_};
+ghost use lib.ListN.{length, drop};
+ghost use Rattle.wire.specs.Bytes.{part, equal};
+ghost use Rattle.wire.specs.All.{All};
+ghost use Rattle.log.specs.Stage.{Stage};
+ghost use Rattle.log.specs.Entry.{page, entryAt, entry, entries, rising as risingFrom, changes, logged, replay as replayed};
+ghost use Rattle.log.specs.Calls.{recoverStores, logStores};
+
+// The first k entries' page numbers are below limit, each above the one before.
+pub(crate) fn rising(image: &[u8], k: usize, limit: usize) -> bool
+    requires { ⌜ entryAt k ≤ length (now image) ⌝ }
+    ensures { λ r. ⌜ r ≡ risingFrom 0 limit (entries (now (image .entry)) 0 k) ⌝ }
+{
+    let mut low = 0;
+    let mut j = 0;
+    while j < k {
+        let p = wire::get16(image, 64 + 66 * j);
+        if p < low {
+            return false;
+        }
+        if limit <= p {
+            return false;
+        }
+        low = p + 1;
+        j += 1;
+    }
+    true
+}
+
+fn load(image: &[u8], at: usize) -> [u8; 64]
+    requires { ⌜ at + 64 ≤ length (now image) ⌝ }
+    ensures { λ r. ⌜ r ≡ part (now (image .entry)) at 64 ⌝ }
+{
+    let mut bytes = [0u8; 64];
+    let end = at + 64;
+    wire::copy(&mut bytes, 0, &image[at..end]);
+    bytes
+}
+
+// Stores entry j's page to its place in home.
+fn replay_one(image: &mut [u8], j: usize, home: usize, m: Meter) -> Meter
+    requires { ⌜ (entryAt j + 66 ≤ length (now image)) × (home + 64 * entry (now image) j .page + 64 ≤ length (now image)) × (m .left + m .made < 2 ^ 64) ⌝ }
+    ensures { λ r. ⌜ Stage (m .left) (m .made) (replayed home (entry (now (image .entry)) j ∷ [])) (now (image .entry)) (r .left) (r .made) (now (image .exit)) ⌝ }
+{
+    let p = wire::get16(image, 64 + 66 * j);
+    let bytes = load(image, 64 + 66 * j + 2);
+    meter::write_at(image, home + 64 * p, &bytes, m)
+}
+
+// Stores the first k entries' pages to home, in order.
+fn replay(image: &mut [u8], k: usize, home: usize, m: Meter) -> Meter
+    requires { ⌜ (entryAt k ≤ home) × All (λ e. home + 64 * e .page + 64 ≤ length (now image)) (entries (now image) 0 k) × (home ≤ length (now image)) × (m .left + m .made < 2 ^ 64) ⌝ }
+    ensures { λ r. ⌜ Stage (m .left) (m .made) (replayed home (entries (now (image .entry)) 0 k)) (now (image .entry)) (r .left) (r .made) (now (image .exit)) ⌝ }
+{
+    let mut v = m;
+    let mut j = 0;
+    while j < k {
+        v = replay_one(image, j, home, v);
+        j += 1;
+    }
+    v
+}
+
+// Replays the log of k entries and clears the mark: all that recover does, and commit once its mark is stored.
+pub(crate) fn replay_log(image: &mut [u8], k: usize, home: usize, m: Meter) -> Meter
+    requires { ⌜ (entryAt k ≤ home) × All (λ e. home + 64 * e .page + 64 ≤ length (now image)) (entries (now image) 0 k) × (home ≤ length (now image)) × (m .left + m .made < 2 ^ 64) ⌝ }
+    ensures { λ r. ⌜ Stage (m .left) (m .made) (recoverStores home (entries (now (image .entry)) 0 k)) (now (image .entry)) (r .left) (r .made) (now (image .exit)) ⌝ }
+{
+    let v = replay(image, k, home, m);
+    let mark = [0u8; 1];
+    meter::write_at(image, 10, &mark, v)
+}
+
+fn same_page(image: &[u8], home: usize, space: &[u8], p: usize) -> bool
+    requires { ⌜ (home + 64 * p + 64 ≤ length (now image)) × (64 * p + 64 ≤ length (now space)) ⌝ }
+    ensures { λ r. ⌜ r ≡ equal (page (drop home (now (image .entry))) p) (page (now (space .entry)) p) ⌝ }
+{
+    let b = 64 * p;
+    let f = b + 64;
+    let a = home + b;
+    let e = a + 64;
+    wire::equal(&image[a..e], &space[b..f])
+}
+
+// The number of pages in which the workspace differs from home.
+pub(crate) fn count_changed(image: &[u8], home: usize, space: &[u8], pages: usize) -> usize
+    requires { ⌜ (home + 64 * pages ≤ length (now image)) × (64 * pages ≤ length (now space)) ⌝ }
+    ensures { λ r. ⌜ r ≡ length (changes (drop home (now (image .entry))) (now (space .entry)) pages) ⌝ }
+{
+    let mut k: usize = 0;
+    let mut p = 0;
+    while p < pages {
+        if same_page(image, home, space, p) {
+            p += 1;
+        } else {
+            k += 1;
+            p += 1;
+        }
+    }
+    k
+}
+
+// Writes page p of the workspace as entry k of the log.
+fn log_entry(image: &mut [u8], space: &[u8], p: usize, k: usize, m: Meter) -> Meter
+    requires { ⌜ (entryAt k + 66 ≤ length (now image)) × (64 * p + 64 ≤ length (now space)) × (m .left + m .made < 2 ^ 64) ⌝ }
+    ensures { λ r. ⌜ Stage (m .left) (m .made) (logged k (record { page = p; bytes = page (now (space .entry)) p } ∷ [])) (now (image .entry)) (r .left) (r .made) (now (image .exit)) ⌝ }
+{
+    let number = wire::bytes16(p);
+    let v = meter::write_at(image, 64 + 66 * k, &number, m);
+    let b = 64 * p;
+    let f = b + 64;
+    meter::write_at(image, 64 + 66 * k + 2, &space[b..f], v)
+}
+
+// Writes the entries of all pages that differ.
+fn log_pages(image: &mut [u8], home: usize, space: &[u8], pages: usize, m: Meter) -> Meter
+    requires { ⌜ (home + 64 * pages ≤ length (now image)) × (64 * pages ≤ length (now space)) × (entryAt (length (changes (drop home (now image)) (now space) pages)) ≤ home) × (m .left + m .made < 2 ^ 64) ⌝ }
+    ensures { λ r. ⌜ Stage (m .left) (m .made) (logged 0 (changes (drop home (now (image .entry))) (now (space .entry)) pages)) (now (image .entry)) (r .left) (r .made) (now (image .exit)) ⌝ }
+{
+    let mut v = m;
+    let mut k: usize = 0;
+    let mut p = 0;
+    while p < pages {
+        if same_page(image, home, space, p) {
+            p += 1;
+        } else {
+            v = log_entry(image, space, p, k, v);
+            k += 1;
+            p += 1;
+        }
+    }
+    v
+}
+
+// Writes the whole log: the entries of the k pages that differ, their count, and the mark.
+pub(crate) fn write_log(
+    image: &mut [u8],
+    home: usize,
+    space: &[u8],
+    pages: usize,
+    k: usize,
+    m: Meter,
+) -> Meter
+    requires { ⌜ (home + 64 * pages ≤ length (now image)) × (64 * pages ≤ length (now space)) × (m .left + m .made < 2 ^ 64) ⌝ }
+    requires { ⌜ (k ≡ length (changes (drop home (now image)) (now space) pages)) × (entryAt k ≤ home) ⌝ }
+    ensures { λ r. ⌜ Stage (m .left) (m .made) (logStores (changes (drop home (now (image .entry))) (now (space .entry)) pages)) (now (image .entry)) (r .left) (r .made) (now (image .exit)) ⌝ }
+{
+    let v = log_pages(image, home, space, pages, m);
+    let count = wire::bytes16(k);
+    let u = meter::write_at(image, 8, &count, v);
+    let mark = [165u8; 1];
+    meter::write_at(image, 10, &mark, u)
+}

@@ -1,0 +1,199 @@
+// The image's head, the redo log over pages, and the calls that store: format, commit and recover.
+// Nothing here knows what the pages hold.
+mod entry;
+mod meter;
+mod sizes;
+
+use meter::Meter;
+ghost use mathlib.Core.Path.{_≡_};
+ghost use mathlib.Core.Bool.{true};
+ghost use mathlib.Core.List.{[]};
+ghost use Prim.Native.Nat.{_+_, _*_, _≤_, _<_};
+ghost use lib.ListN.{length, drop};
+ghost use lib.Dec.{leb};
+ghost use Rattle.wire.specs.Bytes.{pick};
+ghost use Rattle.log.specs.Image.{headOf, headOk, home as homeOf, inRange, imageLength};
+ghost use Rattle.log.specs.Entry.{entryAt, changes};
+ghost use Rattle.log.specs.Calls.{answer, after, store, formatPlan, formatStores, recoverPlan, committedPlan, commitPlan, clearPlan, commitStores, anyBytes};
+
+// What a call that stores answers: done or cut, with the number of stores made, or refused with its number.
+pub enum Outcome {
+    Done(usize),
+    Cut(usize),
+    Refused(u8),
+}
+
+// What an image's head says: refused with 1 or 2, mark 0, or mark 165.
+pub enum Head {
+    Bad(u8),
+    Clear,
+    Committed,
+}
+
+// Looks at the head, which every image call but format does first. With mark 165 all but recover are refused with 3.
+pub fn read_head(image: &[u8]) -> Head
+    ensures { λ r. ⌜ r ≡ headOf (now (image .entry)) ⌝ }
+{
+    if sizes::head_ok(image) {
+        let mark = image[10];
+        match mark {
+            0 => Head::Clear,
+            165 => Head::Committed,
+            _ => Head::Bad(2),
+        }
+    } else {
+        Head::Bad(1)
+    }
+}
+
+// Done or cut, by the stores needed and allowed, with the number made.
+fn report(need: usize, n: usize, made: usize) -> Outcome
+    ensures { λ r. ⌜ r ≡ pick (leb need n) (Outcome.Done made) (Outcome.Cut made) ⌝ }
+{
+    if need <= n {
+        Outcome::Done(made)
+    } else {
+        Outcome::Cut(made)
+    }
+}
+
+// Home, the last 26 + R pages, as a part of the image; empty where the head or the length is not right.
+pub fn home(image: &[u8]) -> &[u8]
+    ensures { λ r. ⌜ now r ≡ pick (headOk (now (image .entry))) (homeOf (now (image .entry))) [] ⌝ }
+{
+    if sizes::head_ok(image) {
+        let at = 64 + 66 * wire::get16(image, 4);
+        let end = image.len();
+        &image[at..end]
+    } else {
+        &image[0..0]
+    }
+}
+
+fn write_format(image: &mut [u8], capacity: usize, pages: usize, n: usize) -> Outcome
+    requires { ⌜ (inRange capacity pages ≡ true) × (length (now image) ≡ imageLength capacity pages) ⌝ }
+    ensures { λ r. ⌜ r ≡ answer (store (formatStores capacity pages)) n ⌝ }
+    ensures { λ _. ⌜ now (image .exit) ≡ after (store (formatStores capacity pages)) n (now (image .entry)) ⌝ }
+{
+    let need = image.len() + 1;
+    let head = sizes::head_page(capacity, pages);
+    let zero = [0u8; 1];
+    let a = meter::write_at(image, 0, &zero, Meter { left: n, made: 0 });
+    let b = meter::write_at(image, 1, &head[1..64], a);
+    let c = meter::write_zeros(image, 64, b);
+    let d = meter::write_at(image, 0, &head[0..1], c);
+    let made = d.made;
+    report(need, n, made)
+}
+
+// Formats the image for L log entries and R record pages.
+pub fn format(image: &mut [u8], capacity: usize, pages: usize, n: usize) -> Outcome
+    ensures { λ r. ⌜ r ≡ answer (formatPlan (now (image .entry)) capacity pages) n ⌝ }
+    ensures { λ _. ⌜ now (image .exit) ≡ after (formatPlan (now (image .entry)) capacity pages) n (now (image .entry)) ⌝ }
+{
+    if sizes::in_range(capacity, pages) {
+        if image.len() == sizes::image_length(capacity, pages) {
+            write_format(image, capacity, pages, n)
+        } else {
+            Outcome::Refused(14)
+        }
+    } else {
+        Outcome::Refused(14)
+    }
+}
+
+// With the mark set: replays the log, if it is one that a commit can have left.
+fn recover_committed(image: &mut [u8], n: usize) -> Outcome
+    requires { ⌜ headOk (now image) ≡ true ⌝ }
+    ensures { λ r. ⌜ r ≡ answer (committedPlan (now (image .entry))) n ⌝ }
+    ensures { λ _. ⌜ now (image .exit) ≡ after (committedPlan (now (image .entry))) n (now (image .entry)) ⌝ }
+{
+    let capacity = wire::get16(image, 4);
+    let pages = 26 + wire::get16(image, 6);
+    let k = wire::get16(image, 8);
+    if k == 0 {
+        return Outcome::Refused(4);
+    }
+    if capacity < k {
+        return Outcome::Refused(4);
+    }
+    if entry::rising(image, k, pages) {
+        let v = entry::replay_log(image, k, 64 + 66 * capacity, Meter { left: n, made: 0 });
+        let made = v.made;
+        report(64 * k + 1, n, made)
+    } else {
+        Outcome::Refused(4)
+    }
+}
+
+// Finishes a commit that was cut after its mark was stored; with the mark clear there is nothing to do.
+pub fn recover(image: &mut [u8], n: usize) -> Outcome
+    ensures { λ r. ⌜ r ≡ answer (recoverPlan (now (image .entry))) n ⌝ }
+    ensures { λ _. ⌜ now (image .exit) ≡ after (recoverPlan (now (image .entry))) n (now (image .entry)) ⌝ }
+{
+    let head = read_head(image);
+    match head {
+        Head::Bad(r) => Outcome::Refused(r),
+        Head::Clear => Outcome::Done(0),
+        Head::Committed => recover_committed(image, n),
+    }
+}
+
+// Writes the k changed pages to the log and, once the mark is stored, to home.
+fn commit_pages(
+    image: &mut [u8],
+    home: usize,
+    space: &[u8],
+    pages: usize,
+    k: usize,
+    n: usize,
+) -> Outcome
+    requires { ⌜ (home + 64 * pages ≡ length (now image)) × (64 * pages ≡ length (now space)) × (pages < 65536) ⌝ }
+    requires { ⌜ (k ≡ length (changes (drop home (now image)) (now space) pages)) × (0 < k) × (entryAt k ≤ home) ⌝ }
+    ensures { λ r. ⌜ r ≡ answer (store (commitStores home (changes (drop home (now (image .entry))) (now (space .entry)) pages))) n ⌝ }
+    ensures { λ _. ⌜ now (image .exit) ≡ after (store (commitStores home (changes (drop home (now (image .entry))) (now (space .entry)) pages))) n (now (image .entry)) ⌝ }
+{
+    let v = entry::write_log(image, home, space, pages, k, Meter { left: n, made: 0 });
+    let left = v.left;
+    if left == 0 {
+        return Outcome::Cut(v.made);
+    }
+    let u = entry::replay_log(image, k, home, v);
+    let made = u.made;
+    report(130 * k + 4, n, made)
+}
+
+// With the mark clear: 6, 13, or the stores.
+fn commit_clear(image: &mut [u8], space: &[u8], n: usize) -> Outcome
+    requires { ⌜ headOk (now image) ≡ true ⌝ }
+    ensures { λ r. ⌜ r ≡ answer (clearPlan anyBytes (now (image .entry)) (now (space .entry))) n ⌝ }
+    ensures { λ _. ⌜ now (image .exit) ≡ after (clearPlan anyBytes (now (image .entry)) (now (space .entry))) n (now (image .entry)) ⌝ }
+{
+    let pages = 26 + wire::get16(image, 6);
+    if space.len() != 64 * pages {
+        return Outcome::Refused(6);
+    }
+    let capacity = wire::get16(image, 4);
+    let home = 64 + 66 * capacity;
+    let k = entry::count_changed(image, home, space, pages);
+    if capacity < k {
+        return Outcome::Refused(13);
+    }
+    if k == 0 {
+        return Outcome::Done(0);
+    }
+    commit_pages(image, home, space, pages, k, n)
+}
+
+// Makes the workspace the image's home, through the log.
+pub fn commit(image: &mut [u8], space: &[u8], n: usize) -> Outcome
+    ensures { λ r. ⌜ r ≡ answer (commitPlan anyBytes (now (image .entry)) (now (space .entry))) n ⌝ }
+    ensures { λ _. ⌜ now (image .exit) ≡ after (commitPlan anyBytes (now (image .entry)) (now (space .entry))) n (now (image .entry)) ⌝ }
+{
+    let head = read_head(image);
+    match head {
+        Head::Bad(r) => Outcome::Refused(r),
+        Head::Clear => commit_clear(image, space, n),
+        Head::Committed => Outcome::Refused(3),
+    }
+}
