@@ -1,0 +1,9 @@
+pub mod Records
+pub mod Examples
+pub mod Order
+pub mod Merging
+pub mod Cells
+pub mod Turns
+pub mod Moves
+pub mod Edits
+pub mod Whole
