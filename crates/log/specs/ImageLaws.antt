@@ -9,7 +9,7 @@ use lib.ListN.{length, drop, getD, length-drop}
 use lib.Dec.{leb, eqb}
 use borrow.Author.Tests.{leb-true, le-leb, eqb-true, eq-eqb, ne-eqb}
 use Rattle.wire.specs.Bytes.{pick, part, get16, equal, blank}
-use Rattle.wire.specs.BytesLaws.{part-same, get16-same}
+use Rattle.wire.specs.BytesLaws.{part-same, get16-same, equal-is}
 use Rattle.wire.specs.Cases.{both, by-test}
 use Rattle.log.specs.declared.Head.the-variants.{Bad, Clear, Committed}
 use Rattle.log.specs.Store.{Store, apply}
@@ -36,8 +36,9 @@ in-range L R e =
       few-log = leb-true L (26 + R) (a .1);
     }
 
--- a right head's sizes, and the length that they give
+-- a right head's letters and sizes, and the length that they give
 pub record Right (l : List ℕ) : Type 0 where
+  pub named : part l 0 4 ≡ letters
   pub sizes : Sizes (capacity l) (recordPages l)
   pub long : length l ≡ imageLength (capacity l) (recordPages l)
 
@@ -47,7 +48,12 @@ head-right l e =
     let a = both (leb 64 (length l) && equal (part l 0 4) letters && inRange (capacity l) (recordPages l) && blank (part l 11 53)) (eqb (length l) (imageLength (capacity l) (recordPages l))) e in
     let b = both (leb 64 (length l) && equal (part l 0 4) letters && inRange (capacity l) (recordPages l)) (blank (part l 11 53)) (a .0) in
     let c = both (leb 64 (length l) && equal (part l 0 4) letters) (inRange (capacity l) (recordPages l)) (b .0) in
-    record { sizes = in-range (capacity l) (recordPages l) (c .1); long = eqb-true (length l) (imageLength (capacity l) (recordPages l)) (a .1) }
+    let d = both (leb 64 (length l)) (equal (part l 0 4) letters) (c .0) in
+    record {
+      named = equal-is (part l 0 4) letters (d .1);
+      sizes = in-range (capacity l) (recordPages l) (c .1);
+      long = eqb-true (length l) (imageLength (capacity l) (recordPages l)) (a .1);
+    }
 
 -- the test as the code puts it together
 pub head-is : (l : List ℕ) (L R n : ℕ) (named sized clean : Bool) → 64 ≤ length l → L ≡ get16 l 4 → R ≡ get16 l 6

@@ -9,6 +9,8 @@ pub mod CallLaws
 pub mod Stage
 pub mod Turns
 pub mod Answers
+pub mod FormatLaws
+pub mod Examples
 pub mod Book
 pub mod Holds
 pub mod Steps

@@ -45,10 +45,11 @@ take-min n xs = elim (decLe n (length xs)) [
 ]
 
 -- as many bytes of a run were written as there are or as were left
-pub stage-run : (n m i a : ℕ) (bs l l' : List ℕ) → i ≡ min n (length bs) → l' ≡ over l a (take i bs) → Stage n m (run a bs) l (n - i) (m + i) l'
-stage-run n m i a bs l l' e h = record {
+pub stage-run : {n' m' : ℕ} (n m i a : ℕ) (bs l l' : List ℕ) → i ≡ min n (length bs) → (n' ≡ n - i) × (m' ≡ m + i) → l' ≡ over l a (take i bs)
+    → Stage n m (run a bs) l n' m' l'
+stage-run n m i a bs l l' e s h = record {
   left = rw length-run (omega arith);
-  made = rw length-run (ap (λ (k : ℕ). m + k) e);
+  made = rw length-run (omega arith);
   bytes = h ∙ ap (over l a) (ap (λ (k : ℕ). take k bs) e ∙ take-min n bs) ∙ sym (apply-take-run n a bs l);
 }
 

@@ -9,12 +9,12 @@ use mathlib.Core.List.{List, [], _∷_, _++_, append-nil}
 use lib.ListN.{length, take, drop, length-append}
 use Rattle.wire.specs.Bytes.{part, get16, bytes16, equal}
 use Rattle.wire.specs.BytesLaws.{length-bytes16}
-use Rattle.wire.specs.Cases.{by-test, by-lt, by-eq}
-use Rattle.wire.specs.All.{none, more, all-map, all-take}
+use Rattle.wire.specs.Cases.{by-test}
+use Rattle.wire.specs.All.{all-take}
 use Rattle.log.specs.Store.{Store, apply, run}
-use Rattle.log.specs.StoreLaws.{length-apply, run-append, kept, drop-kept}
+use Rattle.log.specs.StoreLaws.{length-apply, run-append, go-run, kept, drop-kept}
 use Rattle.log.specs.Entry.{Entry, page, entryAt, entry, entries, changes, logged, replay}
-use Rattle.log.specs.EntryLaws.{Long, entry-same, entries-last, go-replay, go-logged, replay-append, logged-append, changes-same, changes-more}
+use Rattle.log.specs.EntryLaws.{entry-same, entries-last, go-replay, replay-append, logged-append, changes-same, changes-more}
 use Rattle.log.specs.Stage.{Stage, stage-more}
 
 -- ---- replaying
@@ -38,23 +38,26 @@ replayed-more {l} h j g s t = rw (add-one j, entries-last l 0 j, zero-add, repla
 
 -- ---- logging
 
-pub logged-one : {n m n₁ m₁ n₂ m₂ : ℕ} {l l₁ l₂ : List ℕ} (j p : ℕ) (number bs : List ℕ) → number ≡ bytes16 p
-    → Stage n m (run (entryAt j) number) l n₁ m₁ l₁ → Stage n₁ m₁ (run (entryAt j + 2) bs) l₁ n₂ m₂ l₂
-    → Stage n m (logged j (record { page = p; bytes = bs } ∷ [])) l n₂ m₂ l₂
-unfolding logged
-logged-one j p number bs e s t = rw (append-nil, run-append, ← e) (stage-more s (rw (two j p number e) t))
+-- an entry: its number, then its page
+pub logged-one : {n m n₁ m₁ n₂ m₂ : ℕ} {l l₁ l₂ : List ℕ} (at p : ℕ) (number bs : List ℕ) → number ≡ bytes16 p
+    → Stage n m (run at number) l n₁ m₁ l₁ → Stage n₁ m₁ (run (at + 2) bs) l₁ n₂ m₂ l₂
+    → Stage n m (run at (bytes16 p ++ bs)) l n₂ m₂ l₂
+logged-one at p number bs e s t = rw (run-append, ← e) (stage-more s (rw (two at p number e) t))
   where
-    two : (j p : ℕ) (number : List ℕ) → number ≡ bytes16 p → entryAt j + length number ≡ entryAt j + 2
-    two j p number e = rw (e, length-bytes16)
+    two : (at p : ℕ) (number : List ℕ) → number ≡ bytes16 p → at + length number ≡ at + 2
+    two at p number e = rw (e, length-bytes16)
 
 pub logged-more : {n m n₁ m₁ n₂ m₂ : ℕ} {l l₁ l₂ : List ℕ} (es : List Entry) (e : Entry) (k : ℕ) → k ≡ length es
-    → Stage n m (logged 0 es) l n₁ m₁ l₁ → Stage n₁ m₁ (logged k (e ∷ [])) l₁ n₂ m₂ l₂ → Stage n m (logged 0 (es ++ (e ∷ []))) l n₂ m₂ l₂
-logged-more es e k q s t = rw (logged-append, zero-add, ← q) (stage-more s t)
+    → Stage n m (logged 0 es) l n₁ m₁ l₁ → Stage n₁ m₁ (run (entryAt k) (bytes16 (e .page) ++ e .bytes)) l₁ n₂ m₂ l₂
+    → Stage n m (logged 0 (es ++ (e ∷ []))) l n₂ m₂ l₂
+unfolding logged
+logged-more es e k q s t = rw (logged-append, zero-add, ← q, append-nil) (stage-more s t)
 
 -- home stays meanwhile
-pub logged-home : {n m n' m' : ℕ} {l l' : List ℕ} (h j : ℕ) (e : Entry) → Stage n m (logged j (e ∷ [])) l n' m' l' → Long e → entryAt j + 66 ≤ h
+pub logged-home : {n m n' m' : ℕ} {l l' : List ℕ} (h k p : ℕ) (bs : List ℕ) → Stage n m (run (entryAt k) (bytes16 p ++ bs)) l n' m' l' → length bs ≡ 64 → entryAt k + 66 ≤ h
     → drop h l' ≡ drop h l
-logged-home {n} {l = l} h j e s a g = ap (drop h) (s .bytes) ∙ drop-kept h l (all-take n (all-map (λ s r. omega arith) (go-logged j (more {x = e} a none))))
+logged-home {n} {l = l} h k p bs s e g =
+    ap (drop h) (s .bytes) ∙ drop-kept h l (all-take n (go-run (λ a. a < h) (entryAt k) (bytes16 p ++ bs) (λ i a b. omega (arith, length-append (bytes16 p) bs, length-bytes16 p))))
 
 -- ---- the pages below p are no more than those below q
 

@@ -2,11 +2,12 @@
 use crate::meter;
 use crate::meter::Meter;
 ghost use mathlib.Core.Path.{_≡_};
-ghost use mathlib.Core.List.{_∷_, []};
+ghost use mathlib.Core.List.{_∷_, [], _++_};
 ghost use Prim.Native.Nat.{_+_, _*_, _≤_, _<_, _^_};
 ghost use lib.ListN.{length, drop};
-ghost use Rattle.wire.specs.Bytes.{part, equal};
+ghost use Rattle.wire.specs.Bytes.{part, bytes16, equal};
 ghost use Rattle.wire.specs.All.{All};
+ghost use Rattle.log.specs.Store.{run};
 ghost use Rattle.log.specs.Stage.{Stage};
 ghost use Rattle.log.specs.Entry.{page, entryAt, entry, entries, rising as risingFrom, changes, logged, replay as replayed};
 ghost use Rattle.log.specs.Calls.{recoverStores, logStores};
@@ -105,16 +106,16 @@ pub(crate) fn count_changed(image: &[u8], home: usize, space: &[u8], pages: usiz
     k
 }
 
-// Writes page p of the workspace as entry k of the log.
-fn log_entry(image: &mut [u8], space: &[u8], p: usize, k: usize, m: Meter) -> Meter
-    requires { ⌜ (entryAt k + 66 ≤ length (now image)) × (64 * p + 64 ≤ length (now space)) × (m .left + m .made < 2 ^ 64) ⌝ }
-    ensures { λ r. ⌜ Stage (m .left) (m .made) (logged k (record { page = p; bytes = page (now (space .entry)) p } ∷ [])) (now (image .entry)) (r .left) (r .made) (now (image .exit)) ⌝ }
+// Writes page p of the workspace as a log entry at an offset: its number, then its bytes.
+fn log_entry(image: &mut [u8], at: usize, space: &[u8], p: usize, m: Meter) -> Meter
+    requires { ⌜ (at + 66 ≤ length (now image)) × (64 * p + 64 ≤ length (now space)) × (m .left + m .made < 2 ^ 64) ⌝ }
+    ensures { λ r. ⌜ Stage (m .left) (m .made) (run at (bytes16 p ++ page (now (space .entry)) p)) (now (image .entry)) (r .left) (r .made) (now (image .exit)) ⌝ }
 {
     let number = wire::bytes16(p);
-    let v = meter::write_at(image, 64 + 66 * k, &number, m);
+    let v = meter::write_at(image, at, &number, m);
     let b = 64 * p;
     let f = b + 64;
-    meter::write_at(image, 64 + 66 * k + 2, &space[b..f], v)
+    meter::write_at(image, at + 2, &space[b..f], v)
 }
 
 // Writes the entries of all pages that differ.
@@ -129,7 +130,7 @@ fn log_pages(image: &mut [u8], home: usize, space: &[u8], pages: usize, m: Meter
         if same_page(image, home, space, p) {
             p += 1;
         } else {
-            v = log_entry(image, space, p, k, v);
+            v = log_entry(image, 64 + 66 * k, space, p, v);
             k += 1;
             p += 1;
         }

@@ -16,22 +16,30 @@ fn least(a: usize, b: usize) -> usize
     if a < b { a } else { b }
 }
 
+// n stores were made.
+fn spent(m: Meter, n: usize) -> Meter
+    requires { ⌜ (n ≤ m .left) × (m .left + m .made < 2 ^ 64) ⌝ }
+    ensures { λ r. ⌜ (r .left ≡ m .left - n) × (r .made ≡ m .made + n) ⌝ }
+{
+    let left = m.left;
+    Meter {
+        left: left - n,
+        made: m.made + n,
+    }
+}
+
 // Stores src at dst's start, as far as the stores left go.
 pub(crate) fn write_run(dst: &mut [u8], src: &[u8], m: Meter) -> Meter
     requires { ⌜ (length (now src) ≤ length (now dst)) × (m .left + m .made < 2 ^ 64) ⌝ }
     ensures { λ r. ⌜ Stage (m .left) (m .made) (run 0 (now (src .entry))) (now (dst .entry)) (r .left) (r .made) (now (dst .exit)) ⌝ }
 {
-    let left = m.left;
-    let n = least(left, src.len());
+    let n = least(m.left, src.len());
     let mut i = 0;
     while i < n {
         dst[i] = src[i];
         i += 1;
     }
-    Meter {
-        left: left - n,
-        made: m.made + n,
-    }
+    spent(m, n)
 }
 
 // Stores src at an offset of the image: the part is lent to the writer.
@@ -48,11 +56,7 @@ pub(crate) fn write_zeros(image: &mut [u8], at: usize, m: Meter) -> Meter
     requires { ⌜ (at ≤ length (now image)) × (m .left + m .made < 2 ^ 64) ⌝ }
     ensures { λ r. ⌜ Stage (m .left) (m .made) (run at (replicate (length (now (image .entry)) - at) 0)) (now (image .entry)) (r .left) (r .made) (now (image .exit)) ⌝ }
 {
-    let left = m.left;
-    let n = least(left, image.len() - at);
+    let n = least(m.left, image.len() - at);
     wire::fill(image, at, n, 0);
-    Meter {
-        left: left - n,
-        made: m.made + n,
-    }
+    spent(m, n)
 }

@@ -3,7 +3,7 @@ use mathlib.Core.Path.{_≡_, refl, sym, ap, ap₂, _∙_}
 use mathlib.Core.Bool.{Bool, true, false, _&&_}
 use Prim.Native.Nat.{ℕ, zero, suc, _+_, _-_, _*_, _/_, _%_, _≤_, _<_, min}
 use native.Mathlib.Omega.{arith}
-use native.Mathlib.Nat.{add-zero, le-of-suc-le-suc, div-div-eq-div-mul, div-add-mod'}
+use native.Mathlib.Nat.{add-zero, sub-zero, zero-sub, suc-sub-suc, le-of-suc-le-suc, div-div-eq-div-mul, div-add-mod'}
 use native.Mathlib.Numerals.{add-one}
 use mathlib.Core.List.{List, [], _∷_, _++_, append-assoc, append-nil}
 use lib.ListN.{length, take, drop, set, getD, replicate, length-set, length-append, length-take, length-drop, length-replicate, replicate-append-replicate, drop-of-length-le, take-append-drop}
@@ -220,6 +220,11 @@ pub take-replicate : (i n b : ℕ) → i ≤ n → take i (replicate n b) ≡ re
 take-replicate zero n b g = refl
 take-replicate (suc i) zero b g = absurd (omega arith)
 take-replicate (suc i) (suc n) b g = ap (_∷_ b) (take-replicate i n b (omega arith))
+
+pub drop-replicate : (i n b : ℕ) → drop i (replicate n b) ≡ replicate (n - i) b
+drop-replicate zero n b = rw sub-zero
+drop-replicate (suc i) zero b = rw zero-sub
+drop-replicate (suc i) (suc n) b = rw suc-sub-suc (drop-replicate i n b)
 
 pub over-take : (l : List ℕ) (at : ℕ) (bs : List ℕ) (i : ℕ) → i < length bs → set (over l at (take i bs)) (at + i) (getD bs i 0) ≡ over l at (take (i + 1) bs)
 over-take l at bs i g =

@@ -1,4 +1,4 @@
-use mathlib.Core.Path.{_≡_, refl, sym, ap, _∙_}
+use mathlib.Core.Path.{_≡_, refl, sym, ap, ap₂, _∙_}
 use native.Mathlib.Omega.{arith}
 use Prim.Native.Nat.{ℕ, _+_, _*_, _-_, _≤_, _<_, min}
 use native.Mathlib.Nat.{zero-add}
@@ -12,38 +12,39 @@ use Rattle.log.proofs.meter.write_run.Tie as tie
 use Rattle.log.proofs.meter.write_run.Reads as reads
 use Rattle.log.proofs.meter.write_run.Lts as lts
 use Rattle.log.proofs.meter.least.Reads as least-reads
+use Rattle.log.proofs.meter.spent.Reads as spent-reads
 
 abbrev Inv-loop : tie.InvT-loop
-Inv-loop dst₀ src m left n i₀ dst i = (i ≤ n) × (dst ≡ over dst₀ 0 (take i src)) × (length dst ≡ length dst₀)
+Inv-loop dst₀ src m n i₀ dst i = (i ≤ n) × (dst ≡ over dst₀ 0 (take i src)) × (length dst ≡ length dst₀)
 
 abbrev μ-loop : tie.MeasureT-loop
-μ-loop dst₀ src m left n i₀ dst i = n - i
+μ-loop dst₀ src m n i₀ dst i = n - i
 
--- src/meter.rt:25:9
+-- src/meter.rt:36:9
 least-requires : tie.Need-least-requires Inv-loop μ-loop
 least-requires c κs = search needs
 
--- src/meter.rt:27:5
+-- src/meter.rt:38:5
 loop-holds : tie.Need-loop-holds Inv-loop μ-loop
 loop-holds c = (omega arith, sym (over-nil _ 0), refl)
 
--- src/meter.rt:28:18
+-- src/meter.rt:39:18
 shared-slice-read-dst : tie.Need-shared-slice-read-dst Inv-loop μ-loop
 shared-slice-read-dst c = search needs
 
--- src/meter.rt:28:9
+-- src/meter.rt:39:9
 slice-write-dst : tie.Need-slice-write-dst Inv-loop μ-loop
 slice-write-dst c = search needs
 
--- src/meter.rt:29:9
+-- src/meter.rt:40:9
 add-i : tie.Need-add-i Inv-loop μ-loop
 add-i c = search needs
 
--- src/meter.rt:27:5
+-- src/meter.rt:38:5
 loop-less : tie.Need-loop-less Inv-loop μ-loop
 loop-less c = search needs
 
--- src/meter.rt:27:5
+-- src/meter.rt:38:5
 loop-again : tie.Need-loop-again Inv-loop μ-loop
 loop-again c =
     let l = c .before .before .loop in
@@ -51,25 +52,21 @@ loop-again c =
     let turn = over-take (a .dst .now) 0 (a .src .now) (l .i) (omega arith) in
     (omega arith, rw (l .inv .1) (rw (zero-add (l .i)) at turn), simp length-set (omega arith))
 
--- src/meter.rt:32:15
-sub-t7 : tie.Need-sub-t7 Inv-loop μ-loop
-sub-t7 c = search needs
+-- src/meter.rt:42:5
+spent-requires : tie.Need-spent-requires Inv-loop μ-loop
+spent-requires c κs = search needs
 
--- src/meter.rt:33:15
-add-t12 : tie.Need-add-t12 Inv-loop μ-loop
-add-t12 c = search needs
-
--- src/meter.rt:20:1
+-- src/meter.rt:32:1
 same-length : tie.Need-same-length Inv-loop μ-loop
 same-length c = search needs
 
--- src/meter.rt:20:1
+-- src/meter.rt:32:1
 returns : tie.Need-returns Inv-loop μ-loop
 returns c =
     let a = c .before .before .before .before .before .before .args in
     let l = c .before .before .loop in
     let e : l .i ≡ c .before .before .before .least .result = omega arith in
-    rw (← e) (stage-run (a .m .left) (a .m .made) (l .i) 0 (a .src .now) (a .dst .now) _ (omega arith) (l .inv .1))
+    stage-run (a .m .left) (a .m .made) (c .before .before .before .least .result) 0 (a .src .now) (a .dst .now) _ (c .before .before .before .least .ensures) (c .spent .ensures) (rw e at (l .inv .1))
 
 pub write-run-spec : {M : Type 1} → statement M
 write-run-spec =
@@ -84,7 +81,6 @@ write-run-spec =
     add-i
     loop-less
     loop-again
-    sub-t7
-    add-t12
+    spent-requires
     same-length
     returns)
