@@ -1,11 +1,10 @@
 -- A stage on a part of a slice that was lent, said of the whole.
 use mathlib.Core.Path.{_≡_, sym, ap, _∙_}
-use Prim.Native.Nat.{ℕ, _+_, _-_, _≤_, min}
+use Prim.Native.Nat.{ℕ, _+_, _-_, _≤_}
 use native.Mathlib.Omega.{arith}
-use mathlib.Core.List.{List, _++_}
-use lib.ListN.{length, take, drop, length-take}
-use borrow.Rule.Slice.PartMut.{midOf, postOf, putMid}
-use Rattle.wire.specs.Bytes.{over}
+use mathlib.Core.List.{List}
+use lib.ListN.{length, take, length-take}
+use borrow.Rule.Slice.PartMut.{midOf, putMid}
 use Rattle.wire.specs.BytesLaws.{over-part}
 use Rattle.log.specs.Store.{run}
 use Rattle.log.specs.StoreLaws.{apply-take-run, length-run}

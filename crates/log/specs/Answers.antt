@@ -1,29 +1,28 @@
 -- What each return of format, commit and recover answers and leaves.
-use mathlib.Core.Path.{_≡_, refl, sym, ap, ap₂, _∙_}
-use mathlib.Core.Bool.{Bool, true, false, _&&_}
-use Prim.Native.Nat.{ℕ, zero, suc, _+_, _-_, _*_, _≤_, _<_}
+use mathlib.Core.Path.{_≡_, refl, sym, ap, _∙_}
+use mathlib.Core.Bool.{true, false}
+use Prim.Native.Nat.{ℕ, _+_, _-_, _*_, _≤_, _<_}
 use native.Mathlib.Omega.{arith}
-use mathlib.Core.List.{List, [], _∷_, _++_, append-assoc}
+use mathlib.Core.List.{List, [], _∷_, _++_}
 use lib.ListN.{length, take, drop, replicate, length-append, length-drop, length-replicate}
-use lib.Seq.{take-nil, drop-append-le}
-use lib.Dec.{leb, eqb}
+use lib.Seq.{take-nil}
+use lib.Dec.{leb}
 use borrow.Author.Tests.{le-leb, lt-leb, eq-eqb, ne-eqb}
 use Rattle.wire.specs.Bytes.{pick, over, bytes16}
-use Rattle.wire.specs.BytesLaws.{length-bytes16}
 use Rattle.wire.specs.Cases.{by-test, and-false}
 use Rattle.wire.specs.All.{All, all-map}
 use Rattle.log.specs.declared.Head.{Head}
 use Rattle.log.specs.declared.Head.the-variants.{Bad, Clear, Committed}
 use Rattle.log.specs.declared.Outcome.the-variants.{Done, Cut, Refused}
-use Rattle.log.specs.Store.{Store, apply, run}
+use Rattle.log.specs.Store.{run}
 use Rattle.log.specs.StoreLaws.{apply-none, length-run, run-append}
-use Rattle.log.specs.Image.{letters, capacity, recordPages, count, mark, pages, homeAt, home, inRange, imageLength, headOk, headOf}
-use Rattle.log.specs.ImageLaws.{Right, head-right}
+use Rattle.log.specs.Image.{letters, capacity, recordPages, count, pages, homeAt, home, inRange, imageLength, headOk, headOf}
+use Rattle.log.specs.ImageLaws.{Right}
 use Rattle.log.specs.Entry.{Entry, entryAt, entries, rising, changes}
-use Rattle.log.specs.EntryLaws.{Long, Whole, entries-long, length-entries, changes-whole, changes-few, rising-below}
+use Rattle.log.specs.EntryLaws.{Long, Whole, entries-long, length-entries, changes-few, rising-below}
 use Rattle.log.specs.Stage.{Stage, stage-more, stage-stopped, stage-whole, stage-answer}
-use Rattle.log.specs.Calls.{Plan, refuse, store, answer, after, unless, atHead, headPage, emptyImage, formatStores, formatPlan, recoverStores, logOf, logOk, logStores, commitStores, changed, committedPlan, recoverPlan, clearPlan, commitPlan, anyBytes}
-use Rattle.log.specs.CallLaws.{length-recover, length-log, length-commit, commit-none, commit-is, log-entries}
+use Rattle.log.specs.Calls.{Plan, refuse, store, answer, after, atHead, headPage, emptyImage, formatStores, formatPlan, recoverStores, logOf, logOk, logStores, commitStores, changed, committedPlan, clearPlan, anyBytes}
+use Rattle.log.specs.CallLaws.{length-recover, length-log, length-commit, commit-is, log-entries}
 
 -- ---- any call
 

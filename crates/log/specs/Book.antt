@@ -1,6 +1,6 @@
 -- Lists of commits and recoveries, and the book that foretells what each answers and leaves.
 use Prim.Native.Nat.{ℕ, _+_, _*_, _/_, min}
-use mathlib.Core.Bool.{Bool, true, false, _&&_, not}
+use mathlib.Core.Bool.{Bool, _&&_, not}
 use mathlib.Core.List.{List, [], _∷_}
 use lib.ListN.{length, take}
 use lib.Dec.{leb, eqb}

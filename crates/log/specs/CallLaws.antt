@@ -1,26 +1,24 @@
 -- Laws of the calls' stores: how many they are, where they go, and what a whole log leaves.
-use mathlib.Core.Path.{_≡_, refl, sym, ap, ap₂, _∙_}
-use mathlib.Core.Bool.{Bool, true, false, _&&_}
+use mathlib.Core.Path.{_≡_, refl, sym, ap, _∙_}
+use mathlib.Core.Bool.{true, _&&_}
 use mathlib.Core.Logic.{_⊎_, inl, inr, ⊎-elim}
-use Prim.Native.Nat.{ℕ, zero, suc, _+_, _-_, _*_, _≤_, _<_, min}
+use Prim.Native.Nat.{ℕ, _+_, _*_, _≤_, _<_}
 use native.Mathlib.Omega.{arith}
-use native.Mathlib.Nat.{zero-add}
 use mathlib.Core.List.{List, [], _∷_, _++_, append-assoc}
-use lib.ListN.{length, take, drop, getD, length-append, length-take, length-drop}
-use lib.Seq.{take-all, take-append-le}
+use lib.ListN.{length, take, getD, length-append}
+use lib.Seq.{take-append-le}
 use lib.Dec.{leb}
-use borrow.Author.Tests.{leb-true, le-leb}
-use Rattle.wire.specs.Bytes.{pick, over, get16, bytes16}
+use borrow.Author.Tests.{leb-true}
+use Rattle.wire.specs.Bytes.{over, bytes16}
 use Rattle.wire.specs.BytesLaws.{get16-same, get16-over, length-bytes16, length-over, over-low, over-in, over-high}
-use Rattle.wire.specs.Cases.{both, by-test}
+use Rattle.wire.specs.Cases.{both}
 use Rattle.wire.specs.All.{All, none, more, all-append, all-map, all-take}
-use Rattle.log.specs.declared.Outcome.the-variants.{Done, Cut}
 use Rattle.log.specs.Store.{Store, apply, run}
-use Rattle.log.specs.StoreLaws.{apply-append, length-apply, length-run, apply-run, apply-take-append, Go, go-run, kept, drop-kept}
-use Rattle.log.specs.Image.{capacity, recordPages, count, mark, pages, homeAt, home, headOk}
-use Rattle.log.specs.ImageLaws.{Fixed, SameHead, head-kept, capacity-same, pages-same, Right, length-home}
-use Rattle.log.specs.Entry.{Entry, entryAt, entries, rising, changes, logged, replay}
-use Rattle.log.specs.EntryLaws.{Long, Whole, entries-same, length-logged, length-replay, go-logged, go-replay, logged-reads, replay-home, home-becomes, changes-whole, changes-rising}
+use Rattle.log.specs.StoreLaws.{apply-append, length-apply, apply-run, Go, kept}
+use Rattle.log.specs.Image.{capacity, count, mark, pages, homeAt}
+use Rattle.log.specs.ImageLaws.{Fixed, SameHead, head-kept, capacity-same, pages-same}
+use Rattle.log.specs.Entry.{Entry, entryAt, entries, rising, logged, replay}
+use Rattle.log.specs.EntryLaws.{Long, Whole, entries-same, length-logged, length-replay, go-logged, go-replay, logged-reads}
 use Rattle.log.specs.Calls.{clearMark, recoverStores, logOf, logOk, logStores, commitStores}
 
 -- ---- how many

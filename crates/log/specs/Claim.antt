@@ -1,22 +1,21 @@
 -- The claim about whole lists of commits and recoveries, cut anywhere, refused ones included.
 use mathlib.Core.Path.{_≡_, refl, sym, ap, ap₂, _∙_}
-use mathlib.Core.Bool.{Bool, true, false}
-use mathlib.Core.Logic.{_⊎_, inl, inr}
-use Prim.Native.Nat.{ℕ, _+_, _*_, _≤_, _<_}
+use mathlib.Core.Bool.{Bool, true}
+use Prim.Native.Nat.{ℕ}
 use native.Mathlib.Omega.{arith}
-use mathlib.Core.List.{List, [], _∷_, _++_}
+use mathlib.Core.List.{List, [], _∷_}
 use lib.ListN.{length}
 use lib.Dec.{leb, eqb}
 use borrow.Author.Tests.{eq-eqb, ne-eqb}
 use Rattle.wire.specs.Bytes.{pick}
 use Rattle.wire.specs.Cases.{by-test}
-use Rattle.log.specs.declared.Outcome.the-variants.{Done, Cut, Refused}
-use Rattle.log.specs.Image.{capacity, recordPages, mark, pages, home, headOk}
-use Rattle.log.specs.ImageLaws.{SameHead, same-refl, head-same, capacity-same, pages-same, head-right, length-home}
-use Rattle.log.specs.Calls.{answer, after, recoverPlan, commitPlan}
-use Rattle.log.specs.Holds.{Settled, Owing}
+use Rattle.log.specs.declared.Outcome.the-variants.{Done}
+use Rattle.log.specs.Image.{capacity, recordPages, mark, home, headOk}
+use Rattle.log.specs.ImageLaws.{same-refl, capacity-same, pages-same, head-right, length-home}
+use Rattle.log.specs.Calls.{answer, after, recoverPlan}
+use Rattle.log.specs.Holds.{Settled}
 use Rattle.log.specs.Steps.{State, settled, owing, Holds, Step, step}
-use Rattle.log.specs.Book.{Call, commit, recover, allowance, planOf, foretold, report, recoverNeed, Seen, seen, trace, final, Book, start, next, bookAfter, told, ledger}
+use Rattle.log.specs.Book.{Call, recover, allowance, planOf, foretold, report, recoverNeed, Seen, seen, trace, final, Book, start, next, bookAfter, told, ledger}
 
 -- The list starts on an image l with a right head, mark 0 and accepted home. b is the book after it, x the image.
 pub record Claim (accept : List ℕ → Bool) (l : List ℕ) (cs : List Call) (b : Book) (x : List ℕ) : Type 0 where

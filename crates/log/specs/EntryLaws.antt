@@ -1,21 +1,21 @@
 -- Laws of log entries: a log that was written reads back, and its replay makes home the workspace.
-use mathlib.Core.Path.{_≡_, refl, sym, ap, ap₂, subst, _∙_}
-use mathlib.Core.Bool.{Bool, true, false, _&&_}
+use mathlib.Core.Path.{_≡_, refl, sym, ap, ap₂, _∙_}
+use mathlib.Core.Bool.{true, false, _&&_}
 use Prim.Native.Nat.{ℕ, zero, suc, _+_, _-_, _*_, _≤_, _<_}
 use native.Mathlib.Omega.{arith}
-use native.Mathlib.Nat.{add-zero, zero-add, add-suc, suc-add, add-assoc}
+use native.Mathlib.Nat.{add-zero, zero-add, add-suc, suc-add}
 use native.Mathlib.Numerals.{add-one}
 use mathlib.Core.List.{List, [], _∷_, _++_, append-assoc, append-nil}
-use lib.ListN.{length, take, drop, getD, length-append, length-take, length-drop, take-append-drop, drop-of-length-le}
-use lib.Seq.{drop-at, take-at, take-add, drop-drop, take-length, getD-append-add, length-take-le, take-all}
+use lib.ListN.{length, take, drop, getD, length-append, length-drop, take-append-drop, drop-of-length-le}
+use lib.Seq.{drop-at, take-at, take-add, drop-drop, length-take-le, take-all}
 use lib.Dec.{leb, ltb}
 use borrow.Author.Tests.{leb-true, ltb-true, le-leb, lt-leb, lt-ltb, le-ltb}
-use Rattle.wire.specs.Bytes.{pick, part, over, get16, bytes16, equal}
-use Rattle.wire.specs.BytesLaws.{part-same, get16-same, get16-over, length-part, over-is, length-over, over-low, over-in, over-high, part-over, part-at, equal-is}
+use Rattle.wire.specs.Bytes.{part, over, get16, bytes16, equal}
+use Rattle.wire.specs.BytesLaws.{part-same, get16-same, get16-over, length-part, over-is, length-over, over-low, part-over, equal-is}
 use Rattle.wire.specs.Cases.{both, by-test}
-use Rattle.wire.specs.All.{All, none, more, all-append, all-map, all-head, all-tail}
+use Rattle.wire.specs.All.{All, none, more, all-append, all-map}
 use Rattle.log.specs.Store.{Store, apply, run}
-use Rattle.log.specs.StoreLaws.{apply-append, apply-none, length-apply, length-run, run-append, apply-run, drop-run, Go, go-run, kept}
+use Rattle.log.specs.StoreLaws.{apply-append, length-apply, length-run, run-append, apply-run, drop-run, Go, go-run, kept}
 use Rattle.log.specs.Entry.{Entry, page, entryAt, entry, entries, rising, changes, logged, replay}
 
 -- an entry with a whole page

@@ -2,7 +2,7 @@
 use mathlib.Core.Path.{_≡_, refl}
 use mathlib.Core.Bool.{true}
 use Prim.Native.Nat.{ℕ, _*_}
-use mathlib.Core.List.{List, [], _∷_}
+use mathlib.Core.List.{List, []}
 use lib.ListN.{length, drop, set, replicate}
 use Rattle.wire.specs.Bytes.{over, equal, part, get16, bytes16, blank}
 use Rattle.log.specs.declared.Outcome.{Outcome}

@@ -1,24 +1,23 @@
 -- What a format leaves: an empty image once it is finished, and, cut after a store, bytes that every other call refuses with 1.
 use mathlib.Core.Path.{_≡_, refl, sym, ap, _∙_}
-use mathlib.Core.Bool.{Bool, true, false, _&&_}
-use Prim.Native.Nat.{ℕ, zero, suc, _+_, _-_, _*_, _/_, _%_, _≤_, _<_}
+use mathlib.Core.Bool.{Bool, true, false}
+use Prim.Native.Nat.{ℕ, zero, suc, _+_, _-_, _*_, _≤_}
 use native.Mathlib.Omega.{arith}
 use mathlib.Core.List.{List, [], _∷_, _++_}
 use lib.ListN.{length, take, drop, getD, set, replicate, length-drop}
 use lib.Seq.{take-all, drop-at, drop-drop, take-append-le, getD-set-same}
-use lib.Dec.{leb, eqb}
 use borrow.Author.Tests.{le-leb, eq-eqb}
 use Rattle.wire.specs.Bytes.{part, over, get16, bytes16, equal, blank}
 use Rattle.wire.specs.BytesLaws.{over-whole, part-at, drop-replicate}
 use Rattle.wire.specs.Cases.{by-test}
 use Rattle.wire.specs.All.{all-take}
 use Rattle.log.specs.declared.Head.the-variants.{Bad}
-use Rattle.log.specs.Store.{Store, apply, run}
+use Rattle.log.specs.Store.{apply, run}
 use Rattle.log.specs.StoreLaws.{apply-none, apply-append, apply-run, go-run, kept, length-run}
-use Rattle.log.specs.Image.{letters, capacity, recordPages, count, mark, homeAt, home, inRange, imageLength, headOk, headOf}
+use Rattle.log.specs.Image.{letters, capacity, recordPages, count, mark, home, inRange, imageLength, headOk, headOf}
 use Rattle.log.specs.ImageLaws.{in-range, head-right, head-bad}
 use Rattle.log.specs.Calls.{refuse, after, headPage, emptyImage, formatStores, formatPlan, recoverPlan, commitPlan}
-use Rattle.log.specs.Answers.{length-head, length-empty, length-format, format-fits, at-bad}
+use Rattle.log.specs.Answers.{length-head, length-empty, length-format, format-fits}
 
 -- ---- finished
 

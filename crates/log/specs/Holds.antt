@@ -1,28 +1,25 @@
 -- What holds between the calls of a list, and that each call keeps it.
 use mathlib.Core.Path.{_≡_, refl, sym, ap, ap₂, _∙_}
-use mathlib.Core.Bool.{Bool, true, false, _&&_, not}
-use mathlib.Core.Logic.{_⊎_, inl, inr}
-use Prim.Native.Nat.{ℕ, zero, suc, _+_, _-_, _*_, _/_, _≤_, _<_, min}
+use mathlib.Core.Bool.{true}
+use Prim.Native.Nat.{ℕ, _+_, _*_, _≤_, _<_}
 use native.Mathlib.Omega.{arith}
-use mathlib.Core.List.{List, [], _∷_, _++_}
-use lib.ListN.{length, take, drop, getD, length-take, length-drop}
-use lib.Seq.{take-all, take-nil, take-append-le}
-use lib.Dec.{leb, eqb}
-use borrow.Author.Tests.{leb-true, leb-false, le-leb, lt-leb, eq-eqb, ne-eqb, eqb-true, eqb-false}
-use Rattle.wire.specs.Bytes.{pick}
-use Rattle.wire.specs.Cases.{by-test, by-lt, by-eq}
+use mathlib.Core.List.{List}
+use lib.ListN.{length, take, drop, length-take}
+use lib.Seq.{take-all}
+use lib.Dec.{leb}
+use borrow.Author.Tests.{le-leb}
+use Rattle.wire.specs.Cases.{by-test}
 use Rattle.wire.specs.All.{All, none, more, all-map, all-take}
-use Rattle.log.specs.declared.Outcome.the-variants.{Done, Cut, Refused}
 use Rattle.log.specs.Store.{Store, apply, run}
-use Rattle.log.specs.StoreLaws.{apply-none, apply-append, apply-take-append, length-apply, kept, drop-kept, again}
-use Rattle.log.specs.Image.{capacity, recordPages, count, mark, pages, homeAt, home, headOk}
-use Rattle.log.specs.ImageLaws.{SameHead, head-kept, head-same, capacity-same, pages-same, head-right, length-home, head-clear, head-committed}
-use Rattle.log.specs.Entry.{Entry, entryAt, entries, rising, changes, replay}
-use Rattle.log.specs.EntryLaws.{Long, Whole, entries-long, changes-whole, changes-rising, changes-few, go-replay, length-entries, replay-home, home-becomes}
-use Rattle.log.specs.Calls.{store, answer, changed, after, clearMark, recoverStores, logOf, logOk, logStores, commitStores}
-use Rattle.log.specs.CallLaws.{length-recover, length-log, length-commit, commit-none, commit-is, spare-recover, spare-log, below-log, log-unmarked, log-right, SameBelow, mark-same, count-same, log-same, log-ok-same, recover-cut, recover-clears, log-mark, log-count, log-entries}
+use Rattle.log.specs.StoreLaws.{apply-append, kept, drop-kept, again}
+use Rattle.log.specs.Image.{capacity, count, mark, pages, homeAt, home, headOk}
+use Rattle.log.specs.ImageLaws.{SameHead, head-kept, capacity-same, pages-same, head-right, length-home}
+use Rattle.log.specs.Entry.{Entry, entryAt, entries, replay}
+use Rattle.log.specs.EntryLaws.{Long, Whole, entries-long, changes-whole, changes-rising, changes-few, length-entries, replay-home, home-becomes}
+use Rattle.log.specs.Calls.{store, answer, changed, after, clearMark, recoverStores, logOf, logOk, logStores}
+use Rattle.log.specs.CallLaws.{length-recover, spare-recover, spare-log, below-log, log-unmarked, log-right, SameBelow, mark-same, count-same, log-same, log-ok-same, recover-cut, recover-clears, log-mark, log-count, log-entries}
 use Rattle.log.specs.Stage.{take-min}
-use Rattle.log.specs.Book.{Book, report, leftBy}
+use Rattle.log.specs.Book.{report, leftBy}
 
 -- ---- a plan's answer and bytes as the book puts them
 

@@ -5,16 +5,16 @@ use mathlib.Core.Logic.{_⊎_, inl, inr}
 use Prim.Native.Nat.{ℕ, _+_, _*_, _≤_, _<_}
 use native.Mathlib.Omega.{arith}
 use mathlib.Core.List.{List}
-use lib.ListN.{length, drop, getD, length-drop}
+use lib.ListN.{length, getD, length-drop}
 use lib.Dec.{leb, eqb}
 use borrow.Author.Tests.{leb-true, le-leb, eqb-true, eq-eqb, ne-eqb}
-use Rattle.wire.specs.Bytes.{pick, part, get16, equal, blank}
+use Rattle.wire.specs.Bytes.{part, get16, equal, blank}
 use Rattle.wire.specs.BytesLaws.{part-same, get16-same, equal-is}
-use Rattle.wire.specs.Cases.{both, by-test}
+use Rattle.wire.specs.Cases.{both}
 use Rattle.log.specs.declared.Head.the-variants.{Bad, Clear, Committed}
 use Rattle.log.specs.Store.{Store, apply}
 use Rattle.log.specs.StoreLaws.{Go, kept, length-apply}
-use Rattle.log.specs.Image.{letters, capacity, recordPages, mark, pages, homeAt, home, inRange, imageLength, headOk, headOf}
+use Rattle.log.specs.Image.{letters, capacity, recordPages, mark, pages, home, inRange, imageLength, headOk, headOf}
 
 -- sizes in range
 pub record Sizes (L R : ℕ) : Type 0 where

@@ -8,13 +8,11 @@ use mathlib.Core.List.{List, [], _++_}
 use lib.ListN.{length, take, length-append, length-take}
 use lib.Seq.{take-nil, take-all, take-length}
 use lib.Dec.{leb}
-use borrow.Author.Tests.{le-leb, lt-leb}
 use Rattle.wire.specs.Bytes.{pick, over}
-use Rattle.log.specs.declared.Outcome.{Outcome}
-use Rattle.log.specs.declared.Outcome.the-variants.{Done, Cut, Refused}
+use Rattle.log.specs.declared.Outcome.the-variants.{Done, Cut}
 use Rattle.log.specs.Store.{Store, apply, run}
 use Rattle.log.specs.StoreLaws.{apply-none, apply-take-append, apply-take-run, length-run}
-use Rattle.log.specs.Calls.{Plan, store, answer, after}
+use Rattle.log.specs.Calls.{store, answer, after}
 
 -- n stores were left and m made before the stores ss, n' and m' after: the first n of them were made on l, which is then l'
 pub record Stage (n m : ℕ) (ss : List Store) (l : List ℕ) (n' m' : ℕ) (l' : List ℕ) : Type 0 where

@@ -1,26 +1,25 @@
 -- Each call of a list answers as the book foretells and keeps what holds between calls.
 use mathlib.Core.Path.{_≡_, refl, sym, ap, ap₂, _∙_}
-use mathlib.Core.Bool.{Bool, true, false, _&&_, not}
-use Prim.Native.Nat.{ℕ, zero, suc, _+_, _-_, _*_, _/_, _≤_, _<_, min}
+use mathlib.Core.Bool.{Bool, true}
+use Prim.Native.Nat.{ℕ, _+_, _-_, _*_, _/_, _≤_, _<_}
 use native.Mathlib.Omega.{arith}
-use mathlib.Core.List.{List, [], _∷_, _++_}
-use lib.ListN.{length, take, drop}
+use mathlib.Core.List.{List, []}
+use lib.ListN.{length, take}
 use lib.Seq.{take-all, take-nil, take-append-le}
 use lib.Dec.{leb, eqb}
-use borrow.Author.Tests.{leb-true, leb-false, le-leb, lt-leb, eq-eqb, ne-eqb, eqb-true, eqb-false}
+use borrow.Author.Tests.{leb-true, le-leb, lt-leb, eq-eqb, ne-eqb, eqb-true}
 use Rattle.wire.specs.Bytes.{pick}
-use Rattle.wire.specs.Cases.{by-test, by-lt, by-eq}
+use Rattle.wire.specs.Cases.{by-test, by-lt}
 use Rattle.wire.specs.All.{all-take}
-use Rattle.log.specs.declared.Outcome.the-variants.{Done, Cut, Refused}
 use Rattle.log.specs.Store.{Store, apply}
-use Rattle.log.specs.StoreLaws.{apply-none, apply-take-append}
-use Rattle.log.specs.Image.{capacity, recordPages, mark, pages, homeAt, home, headOk, headOf}
-use Rattle.log.specs.ImageLaws.{SameHead, same-trans, head-kept, head-same, capacity-same, pages-same, head-right, length-home, head-clear, head-committed}
+use Rattle.log.specs.StoreLaws.{apply-take-append}
+use Rattle.log.specs.Image.{capacity, mark, pages, homeAt, headOk}
+use Rattle.log.specs.ImageLaws.{SameHead, same-trans, head-kept, head-same, capacity-same, pages-same, head-clear, head-committed}
 use Rattle.log.specs.Entry.{Entry, changes}
 use Rattle.log.specs.Calls.{Plan, unless, refuse, store, answer, after, changed, recoverStores, logOf, logOk, logStores, commitStores, committedPlan, recoverPlan, clearPlan, commitPlan}
-use Rattle.log.specs.CallLaws.{length-log, length-commit, commit-none, commit-is, spare-log, log-count, log-entries}
+use Rattle.log.specs.CallLaws.{length-log, length-commit, commit-none, commit-is, spare-log}
 use Rattle.log.specs.Holds.{answer-report, after-report, Settled, Owing, recover-length, recover-head, recover-owes, recover-settles, long-changes, commit-early, commit-head, commit-log, commit-owes}
-use Rattle.log.specs.Book.{Call, commit, recover, allowance, planOf, Seen, seen, Book, differing, Verdict, refused, writes, judge, commitNeed, recoverNeed, report, markStored, answerTo, bookAt, foretold, next, leftBy, told}
+use Rattle.log.specs.Book.{Call, commit, recover, allowance, planOf, seen, Book, differing, refused, writes, judge, commitNeed, recoverNeed, report, markStored, answerTo, bookAt, foretold, next, leftBy, told}
 
 -- ---- plans by the state of the image
 

@@ -1,6 +1,6 @@
 -- Stages of replaying and of logging: one entry, and one entry more.
-use mathlib.Core.Path.{_≡_, refl, sym, ap, _∙_}
-use mathlib.Core.Bool.{Bool, true, false}
+use mathlib.Core.Path.{_≡_, ap, _∙_}
+use mathlib.Core.Bool.{false}
 use Prim.Native.Nat.{ℕ, zero, suc, _+_, _-_, _*_, _≤_, _<_}
 use native.Mathlib.Omega.{arith}
 use native.Mathlib.Nat.{zero-add, le-refl, le-trans, suc-add}
@@ -11,7 +11,7 @@ use Rattle.wire.specs.Bytes.{part, get16, bytes16, equal}
 use Rattle.wire.specs.BytesLaws.{length-bytes16}
 use Rattle.wire.specs.Cases.{by-test}
 use Rattle.wire.specs.All.{all-take}
-use Rattle.log.specs.Store.{Store, apply, run}
+use Rattle.log.specs.Store.{run}
 use Rattle.log.specs.StoreLaws.{length-apply, run-append, go-run, kept, drop-kept}
 use Rattle.log.specs.Entry.{Entry, page, entryAt, entry, entries, changes, logged, replay}
 use Rattle.log.specs.EntryLaws.{entry-same, entries-last, go-replay, replay-append, logged-append, changes-same, changes-more}

@@ -2,9 +2,6 @@ use Prim.Native.Nat.{_-_, _≤_, _<_}
 use borrow.Author.Needs.{needs}
 use Rattle.cuts.proofs.settled.Statement.{statement}
 use Rattle.cuts.proofs.settled.Tie as tie
-use Rattle.cuts.proofs.settled.Reads as reads
-use Rattle.cuts.proofs.settled.Lts as lts
-use Rattle.cuts.proofs.found.Reads as found-reads
 
 abbrev Inv-loop : tie.InvT-loop
 Inv-loop cut old new home m₀ m = (m ≤ 194) × (home < 3)
@@ -12,35 +9,27 @@ Inv-loop cut old new home m₀ m = (m ≤ 194) × (home < 3)
 abbrev μ-loop : tie.MeasureT-loop
 μ-loop cut old new home m₀ m = 194 - m
 
--- src/main.rt:60:9
 found-requires : tie.Need-found-requires Inv-loop μ-loop
 found-requires c κs = search needs
 
--- src/main.rt:62:5
 loop-holds : tie.Need-loop-holds Inv-loop μ-loop
 loop-holds c = search needs
 
--- src/main.rt:63:12
 found-requires-2 : tie.Need-found-requires-2 Inv-loop μ-loop
 found-requires-2 c κs = search needs
 
--- src/main.rt:64:13
 returns : tie.Need-returns Inv-loop μ-loop
 returns c = search needs
 
--- src/main.rt:66:9
 add-m : tie.Need-add-m Inv-loop μ-loop
 add-m c = search needs
 
--- src/main.rt:62:5
 loop-less : tie.Need-loop-less Inv-loop μ-loop
 loop-less c = search needs
 
--- src/main.rt:62:5
 loop-again : tie.Need-loop-again Inv-loop μ-loop
 loop-again c = search needs
 
--- src/main.rt:57:1
 returns-2 : tie.Need-returns-2 Inv-loop μ-loop
 returns-2 c = search needs
 

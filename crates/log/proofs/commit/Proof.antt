@@ -1,61 +1,46 @@
-use mathlib.Core.Path.{_≡_, refl, sym, ap, ap₂, _∙_}
+use mathlib.Core.Path.{sym, _∙_}
 use Rattle.log.specs.Calls.{commitPlan, clearPlan, refuse, anyBytes}
 use Rattle.log.specs.Answers.{refused-is, at-bad, at-clear, at-committed, clear-ok}
 use borrow.Author.Needs.{needs}
 use Rattle.log.proofs.commit.Statement.{statement}
 use Rattle.log.proofs.commit.Tie as tie
-use Rattle.log.proofs.commit.Reads as reads
-use Rattle.log.proofs.commit.Lts as lts
-use Rattle.log.proofs.commit_clear.Reads as commit-clear-reads
-use Rattle.log.proofs.read_head.Reads as read-head-reads
 
--- src/lib.rt:192:9
 read-head-requires : tie.Need-read-head-requires
 read-head-requires c κs = search needs
 
--- src/lib.rt:194:19
 enum-known-head : tie.Need-enum-known-head
 enum-known-head c = search needs
 
--- src/lib.rt:195:37
 enum-told : tie.Need-enum-told
 enum-told c = search needs
 
--- src/lib.rt:195:24
 commit-clear-requires : tie.Need-commit-clear-requires
 commit-clear-requires c κs = clear-ok (c .before .before .before .before .before .before .before .args .image .now) (sym (c .before .before .before .read-head .ensures) ∙ c .before .enum-told .given .1)
 
--- src/lib.rt:196:28
 enum-told-2 : tie.Need-enum-told-2
 enum-told-2 c = search needs
 
--- src/lib.rt:188:1
 same-length : tie.Need-same-length
 same-length c = search needs
 
--- src/lib.rt:188:1
 returns : tie.Need-returns
 unfolding commitPlan
 returns c =
     let a = c .before .before .before .before .before .before .before .args in
     refused-is _ _ (a .n) (a .image .now) (at-bad (a .image .now) _ (clearPlan anyBytes (a .image .now) (a .space .now)) (refuse 3) (sym (c .before .before .before .read-head .ensures) ∙ c .before .head .given .1))
 
--- src/lib.rt:188:1
 same-length-2 : tie.Need-same-length-2
 same-length-2 c = search needs
 
--- src/lib.rt:188:1
 returns-2 : tie.Need-returns-2
 unfolding commitPlan
 returns-2 c =
     let a = c .before .before .before .before .before .before .before .before .before .before .args in
     rw (at-clear (a .image .now) (clearPlan anyBytes (a .image .now) (a .space .now)) (refuse 3) (sym (c .before .before .before .before .before .before .read-head .ensures) ∙ c .before .before .before .before .enum-told .given .1)) (c .before .before .commit-clear .ensures)
 
--- src/lib.rt:188:1
 same-length-3 : tie.Need-same-length-3
 same-length-3 c = search needs
 
--- src/lib.rt:188:1
 returns-3 : tie.Need-returns-3
 unfolding commitPlan
 returns-3 c =

@@ -1,6 +1,6 @@
-use mathlib.Core.Path.{_≡_, refl, sym, ap, ap₂, _∙_}
+use mathlib.Core.Path.{sym, ap, _∙_}
 use native.Mathlib.Omega.{arith}
-use Prim.Native.Nat.{ℕ, _+_, _*_, _-_, _≤_, _<_, min}
+use Prim.Native.Nat.{ℕ, _+_, _*_}
 use Rattle.log.specs.ImageLaws.{head-right}
 use lib.ListN.{length}
 use Rattle.log.specs.CallLaws.{commit-none}
@@ -10,55 +10,39 @@ use Rattle.log.specs.Answers.{refused-is, nothing-is, other-length, many
 use borrow.Author.Needs.{needs}
 use Rattle.log.proofs.commit_clear.Statement.{statement}
 use Rattle.log.proofs.commit_clear.Tie as tie
-use Rattle.log.proofs.commit_clear.Reads as reads
-use Rattle.log.proofs.commit_clear.Lts as lts
-use Rattle.log.proofs.commit_pages.Reads as commit-pages-reads
-use Rattle.log.proofs.entry.count_changed.Reads as count-changed-reads
-use Rattle.wire.proofs.get16.Reads as get16-reads
 
--- src/lib.rt:171:22
 get16-requires : tie.Need-get16-requires
 get16-requires c κs = let r = head-right (c .before .before .before .args .image .now) (c .before .before .before .pre) in omega arith
 
--- src/lib.rt:171:17
 add-pages : tie.Need-add-pages
 add-pages c = search needs
 
--- src/lib.rt:172:23
 mul-if1 : tie.Need-mul-if1
 mul-if1 c = search needs
 
--- src/lib.rt:173:9
 same-length : tie.Need-same-length
 same-length c = search needs
 
--- src/lib.rt:173:9
 returns : tie.Need-returns
 returns c =
     let a = c .before .before .before .before .before .args in
     refused-is _ 6 (a .n) (a .image .now) (other-length (a .image .now) (a .space .now) (λ e. c .if1 .taken (e ∙ ap (λ (j : ℕ). 64 * (26 + j)) (sym (c .before .get16 .ensures .0)))))
 
--- src/lib.rt:175:9
 get16-requires-2 : tie.Need-get16-requires-2
 get16-requires-2 c κs = let r = head-right (c .before .before .before .before .before .before .args .image .now) (c .before .before .before .before .before .before .pre) in omega arith
 
--- src/lib.rt:176:21
 mul-home : tie.Need-mul-home
 mul-home c = search needs
 
--- src/lib.rt:176:16
 add-home : tie.Need-add-home
 add-home c = search needs
 
--- src/lib.rt:177:9
 count-changed-requires : tie.Need-count-changed-requires
 count-changed-requires c κs = let r = head-right (c .before .before .before .before .before .before .before .before .args .image .now) (c .before .before .before .before .before .before .before .before .pre) in omega arith
 
--- src/lib.rt:179:9
 same-length-2 : tie.Need-same-length-2
 same-length-2 c = search needs
 
--- src/lib.rt:179:9
 returns-2 : tie.Need-returns-2
 returns-2 c =
     let a = c .before .before .before .before .before .before .before .before .before .before .args in
@@ -66,11 +50,9 @@ returns-2 c =
     let k = c .before .count-changed .ensures ∙ ap length (changed-is l (a .space .now) _ _ (c .before .before .before .get162 .ensures .0) (c .before .before .before .before .before .before .get16 .ensures .0)) in
     refused-is _ 13 (a .n) l (many-pages l (a .space .now) (omega arith) (omega arith))
 
--- src/lib.rt:182:9
 same-length-3 : tie.Need-same-length-3
 same-length-3 c = search needs
 
--- src/lib.rt:182:9
 returns-3 : tie.Need-returns-3
 returns-3 c =
     let a = c .before .before .before .before .before .before .before .before .before .before .before .args in
@@ -79,17 +61,14 @@ returns-3 c =
     let empty = ap store (commit-none (homeAt l) (changed l (a .space .now)) (sym k ∙ c .if3 .taken)) in
     nothing-is _ (a .n) l (few-pages-is l (a .space .now) (omega arith) (omega arith) ∙ empty)
 
--- src/lib.rt:184:5
 commit-pages-requires : tie.Need-commit-pages-requires
 commit-pages-requires c κs =
     let r = head-right (c .before .before .before .before .before .before .before .before .before .before .before .before .args .image .now) (c .before .before .before .before .before .before .before .before .before .before .before .before .pre) in
     ((omega arith, omega arith, omega arith), (c .before .before .before .count-changed .ensures, omega arith, omega arith))
 
--- src/lib.rt:166:1
 same-length-4 : tie.Need-same-length-4
 same-length-4 c = search needs
 
--- src/lib.rt:166:1
 returns-4 : tie.Need-returns-4
 returns-4 c =
     let a = c .before .before .before .before .before .before .before .before .before .before .before .before .before .before .before .args in

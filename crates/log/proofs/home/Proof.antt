@@ -1,6 +1,6 @@
 use Prim.Native.Nat.{_-_}
 use Prim.Native.Nat.{_+_, _*_}
-use mathlib.Core.Path.{_≡_, refl, sym, ap, ap₂, _∙_}
+use mathlib.Core.Path.{sym, _∙_}
 use native.Mathlib.Omega.{arith}
 use lib.ListN.{length, drop, length-drop}
 use lib.Seq.{take-all}
@@ -9,52 +9,37 @@ use Rattle.log.specs.ImageLaws.{head-right}
 use borrow.Author.Needs.{needs}
 use Rattle.log.proofs.home.Statement.{statement}
 use Rattle.log.proofs.home.Tie as tie
-use Rattle.log.proofs.home.Reads as reads
-use Rattle.log.proofs.home.Lts as lts
-use Rattle.log.proofs.sizes.head_ok.Reads as head-ok-reads
-use Rattle.wire.proofs.get16.Reads as get16-reads
 
--- src/lib.rt:64:8
 head-ok-requires : tie.Need-head-ok-requires
 head-ok-requires c κs = search needs
 
--- src/lib.rt:65:28
 get16-requires : tie.Need-get16-requires
 get16-requires c κs = let r = head-right (c .before .before .before .args .image .now) (sym (c .before .head-ok .ensures) ∙ c .if1 .taken) in omega arith
 
--- src/lib.rt:65:23
 mul-at : tie.Need-mul-at
 mul-at c = search needs
 
--- src/lib.rt:65:18
 add-at : tie.Need-add-at
 add-at c = search needs
 
--- src/lib.rt:67:9
 sub-result : tie.Need-sub-result
 sub-result c = let r = head-right (c .before .before .before .before .args .image .now) (sym (c .before .before .head-ok .ensures) ∙ c .before .if1 .taken) in omega arith
 
--- src/lib.rt:67:9
 part-result-start : tie.Need-part-result-start
 part-result-start c = let r = head-right (c .before .before .before .before .args .image .now) (sym (c .before .before .head-ok .ensures) ∙ c .before .if1 .taken) in omega arith
 
--- src/lib.rt:67:9
 part-result-end : tie.Need-part-result-end
 part-result-end c = search needs
 
--- src/lib.rt:69:9
 sub-result-2 : tie.Need-sub-result-2
 sub-result-2 c = search needs
 
--- src/lib.rt:69:9
 part-result-start-2 : tie.Need-part-result-start-2
 part-result-start-2 c = search needs
 
--- src/lib.rt:69:9
 part-result-end-2 : tie.Need-part-result-end-2
 part-result-end-2 c = search needs
 
--- src/lib.rt:61:1
 returns : tie.Need-returns
 unfolding home
 returns c =
@@ -63,7 +48,6 @@ returns c =
     let ok = sym (c .before .before .before .head-ok .ensures) ∙ c .before .before .if1 .taken in
     rw (ok, ← c .before .get16 .ensures .0) (take-all (length l - at) (drop at l) (omega (arith, length-drop at l)))
 
--- src/lib.rt:61:1
 returns-2 : tie.Need-returns-2
 returns-2 c = rw (sym (c .before .before .head-ok .ensures) ∙ c .before .if1 .left)
 

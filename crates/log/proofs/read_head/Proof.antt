@@ -1,35 +1,25 @@
-use mathlib.Core.Path.{_≡_, refl, sym, ap, ap₂, _∙_}
+use mathlib.Core.Path.{sym, _∙_}
 use native.Mathlib.Omega.{arith}
-use Rattle.log.specs.Image.{headOf}
 use Rattle.log.specs.ImageLaws.{head-right, head-bad, head-clear, head-committed, head-other}
 use borrow.Author.Needs.{needs}
 use Rattle.log.proofs.read_head.Statement.{statement}
 use Rattle.log.proofs.read_head.Tie as tie
-use Rattle.log.proofs.read_head.Reads as reads
-use Rattle.log.proofs.read_head.Lts as lts
-use Rattle.log.proofs.sizes.head_ok.Reads as head-ok-reads
 
--- src/lib.rt:37:8
 head-ok-requires : tie.Need-head-ok-requires
 head-ok-requires c κs = search needs
 
--- src/lib.rt:38:20
 shared-slice-read-mark : tie.Need-shared-slice-read-mark
 shared-slice-read-mark c = let r = head-right (c .before .before .before .before .args .image .now) (sym (c .before .before .head-ok .ensures) ∙ c .before .if1 .taken) in omega arith
 
--- src/lib.rt:34:1
 returns : tie.Need-returns
 returns c = sym (head-clear (c .before .before .before .before .before .args .image .now) (sym (c .before .before .before .head-ok .ensures) ∙ c .before .before .if1 .taken) (c .match .keys1))
 
--- src/lib.rt:34:1
 returns-2 : tie.Need-returns-2
 returns-2 c = sym (head-committed (c .before .before .before .before .before .args .image .now) (sym (c .before .before .before .head-ok .ensures) ∙ c .before .before .if1 .taken) (c .match .keys2))
 
--- src/lib.rt:34:1
 returns-3 : tie.Need-returns-3
 returns-3 c = sym (head-other (c .before .before .before .before .before .args .image .now) (sym (c .before .before .before .head-ok .ensures) ∙ c .before .before .if1 .taken) (c .match .rest .0 .1) (c .match .rest .1))
 
--- src/lib.rt:34:1
 returns-4 : tie.Need-returns-4
 returns-4 c = sym (head-bad _ (sym (c .before .head-ok .ensures) ∙ c .if1 .left))
 

@@ -1,63 +1,44 @@
-use mathlib.Core.Path.{_≡_, refl, sym, ap, ap₂, _∙_}
+use mathlib.Core.Path.{sym, _∙_}
 use native.Mathlib.Omega.{arith}
 use Rattle.log.specs.ImageLaws.{head-right}
-use lib.ListN.{length}
 use Rattle.log.specs.Answers.{refused-is, none-logged, over-logged, mixed-logged, well-logged, logged-inside, recovered-is}
 use borrow.Author.Needs.{needs}
 use Rattle.log.proofs.recover_committed.Statement.{statement}
 use Rattle.log.proofs.recover_committed.Tie as tie
-use Rattle.log.proofs.recover_committed.Reads as reads
-use Rattle.log.proofs.recover_committed.Lts as lts
-use Rattle.log.proofs.entry.replay_log.Reads as replay-log-reads
-use Rattle.log.proofs.entry.rising.Reads as rising-reads
-use Rattle.log.proofs.report.Reads as report-reads
-use Rattle.wire.proofs.get16.Reads as get16-reads
 
--- src/lib.rt:110:9
 get16-requires : tie.Need-get16-requires
 get16-requires c κs = let r = head-right (c .before .before .args .image .now) (c .before .before .pre) in omega arith
 
--- src/lib.rt:111:22
 get16-requires-2 : tie.Need-get16-requires-2
 get16-requires-2 c κs = let r = head-right (c .before .before .before .before .args .image .now) (c .before .before .before .before .pre) in omega arith
 
--- src/lib.rt:111:17
 add-pages : tie.Need-add-pages
 add-pages c = search needs
 
--- src/lib.rt:112:9
 get16-requires-3 : tie.Need-get16-requires-3
 get16-requires-3 c κs = let r = head-right (c .before .before .before .before .before .before .args .image .now) (c .before .before .before .before .before .before .pre) in omega arith
 
--- src/lib.rt:114:9
 same-length : tie.Need-same-length
 same-length c = search needs
 
--- src/lib.rt:114:9
 returns : tie.Need-returns
 returns c = let a = c .before .before .before .before .before .before .before .before .args in refused-is _ 4 (a .n) (a .image .now) (none-logged (a .image .now) (sym (c .before .get163 .ensures .0) ∙ c .if1 .taken))
 
--- src/lib.rt:117:9
 same-length-2 : tie.Need-same-length-2
 same-length-2 c = search needs
 
--- src/lib.rt:117:9
 returns-2 : tie.Need-returns-2
 returns-2 c = let a = c .before .before .before .before .before .before .before .before .before .args in refused-is _ 4 (a .n) (a .image .now) (over-logged (a .image .now) (omega arith))
 
--- src/lib.rt:119:8
 rising-requires : tie.Need-rising-requires
 rising-requires c κs = let r = head-right (c .before .before .before .before .before .before .before .before .before .before .args .image .now) (c .before .before .before .before .before .before .before .before .before .before .pre) in omega arith
 
--- src/lib.rt:120:50
 mul-replay-log : tie.Need-mul-replay-log
 mul-replay-log c = search needs
 
--- src/lib.rt:120:45
 add-replay-log : tie.Need-add-replay-log
 add-replay-log c = search needs
 
--- src/lib.rt:120:13
 replay-log-requires : tie.Need-replay-log-requires
 replay-log-requires c κs =
     let l = c .before .before .before .before .before .before .before .before .before .before .before .before .before .args .image .now in
@@ -65,23 +46,18 @@ replay-log-requires c κs =
     let up = rw (c .before .before .before .before .before .before .before .before .get162 .ensures .0, c .before .before .before .before .before .before .get163 .ensures .0) at (sym (c .before .before .rising .ensures) ∙ c .before .if3 .taken) in
     (omega arith, rw (c .before .before .before .before .before .before .before .before .before .before .get16 .ensures .0, c .before .before .before .before .before .before .get163 .ensures .0) (logged-inside l r up), omega arith, omega arith)
 
--- src/lib.rt:122:16
 mul-report : tie.Need-mul-report
 mul-report c = search needs
 
--- src/lib.rt:122:16
 add-report : tie.Need-add-report
 add-report c = search needs
 
--- src/lib.rt:122:9
 report-requires : tie.Need-report-requires
 report-requires c κs = search needs
 
--- src/lib.rt:105:1
 same-length-3 : tie.Need-same-length-3
 same-length-3 c = search needs
 
--- src/lib.rt:105:1
 returns-3 : tie.Need-returns-3
 returns-3 c =
     let a = c .before .before .before .before .before .before .before .before .before .before .before .before .before .before .before .before .before .args in
@@ -93,11 +69,9 @@ returns-3 c =
     let x = recovered-is l _ plan (omega arith) (rw (c .before .before .before .before .before .before .before .before .before .before .before .before .before .before .get16 .ensures .0, k) at (c .before .before .before .replay-log .ensures)) in
     (rw k at (c .report .ensures) ∙ x .0, x .1)
 
--- src/lib.rt:105:1
 same-length-4 : tie.Need-same-length-4
 same-length-4 c = search needs
 
--- src/lib.rt:105:1
 returns-4 : tie.Need-returns-4
 returns-4 c =
     let a = c .before .before .before .before .before .before .before .before .before .before .before .before .args in

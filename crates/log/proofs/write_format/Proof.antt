@@ -1,80 +1,57 @@
-use mathlib.Core.Path.{_≡_, refl, sym, ap, ap₂, _∙_}
+use mathlib.Core.Path.{_≡_, _∙_}
 use native.Mathlib.Omega.{arith}
-use Prim.Native.Nat.{ℕ, _+_, _*_, _-_, _≤_, _<_, min}
 use lib.ListN.{length}
 use Rattle.log.specs.Image.{imageLength}
 use Rattle.log.specs.Answers.{format-stages}
 use borrow.Author.Needs.{needs}
 use Rattle.log.proofs.write_format.Statement.{statement}
 use Rattle.log.proofs.write_format.Tie as tie
-use Rattle.log.proofs.write_format.Reads as reads
-use Rattle.log.proofs.write_format.Lts as lts
-use Rattle.log.proofs.meter.write_at.Reads as write-at-reads
-use Rattle.log.proofs.meter.write_zeros.Reads as write-zeros-reads
-use Rattle.log.proofs.report.Reads as report-reads
-use Rattle.log.proofs.sizes.head_page.Reads as head-page-reads
 
--- src/lib.rt:78:16
 add-need : tie.Need-add-need
 add-need c = search needs
 
--- src/lib.rt:79:16
 head-page-requires : tie.Need-head-page-requires
 head-page-requires c κs = search needs
 
--- src/lib.rt:81:39
 slice-aggregate-write-at : tie.Need-slice-aggregate-write-at
 slice-aggregate-write-at c = search needs
 
--- src/lib.rt:81:9
 write-at-requires : tie.Need-write-at-requires
 write-at-requires c κs = search needs
 
--- src/lib.rt:82:39
 sub-write-at : tie.Need-sub-write-at
 sub-write-at c = search needs
 
--- src/lib.rt:82:39
 part-write-at-start : tie.Need-part-write-at-start
 part-write-at-start c = search needs
 
--- src/lib.rt:82:39
 part-write-at-end : tie.Need-part-write-at-end
 part-write-at-end c = search needs
 
--- src/lib.rt:82:9
 write-at-requires-2 : tie.Need-write-at-requires-2
 write-at-requires-2 c κs = search needs
 
--- src/lib.rt:83:9
 write-zeros-requires : tie.Need-write-zeros-requires
 write-zeros-requires c κs = search needs
 
--- src/lib.rt:84:39
 sub-write-at-2 : tie.Need-sub-write-at-2
 sub-write-at-2 c = search needs
 
--- src/lib.rt:84:39
 part-write-at-start-2 : tie.Need-part-write-at-start-2
 part-write-at-start-2 c = search needs
 
--- src/lib.rt:84:39
 part-write-at-end-2 : tie.Need-part-write-at-end-2
 part-write-at-end-2 c = search needs
 
--- src/lib.rt:84:9
 write-at-requires-3 : tie.Need-write-at-requires-3
 write-at-requires-3 c κs = search needs
 
--- src/lib.rt:86:5
 report-requires : tie.Need-report-requires
 report-requires c κs = search needs
 
--- src/lib.rt:73:1
 same-length : tie.Need-same-length
 same-length c = search needs
 
--- src/lib.rt:73:1
 returns : tie.Need-returns
 returns c =
     let a = c .before .before .before .before .before .before .before .before .before .before .before .before .before .before .before .before .before .before .before .before .before .before .before .before .args in

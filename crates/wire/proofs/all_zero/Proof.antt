@@ -1,4 +1,4 @@
-use mathlib.Core.Path.{_≡_, refl, sym, ap, _∙_}
+use mathlib.Core.Path.{_≡_, sym, _∙_}
 use native.Mathlib.Omega.{arith}
 use Prim.Native.Nat.{_-_, _≤_}
 use mathlib.Core.Bool.{_&&_}
@@ -8,8 +8,6 @@ use Rattle.wire.specs.BytesLaws.{blank-step, blank-end}
 use borrow.Author.Needs.{needs}
 use Rattle.wire.proofs.all_zero.Statement.{statement}
 use Rattle.wire.proofs.all_zero.Tie as tie
-use Rattle.wire.proofs.all_zero.Reads as reads
-use Rattle.wire.proofs.all_zero.Lts as lts
 
 abbrev Inv-loop : tie.InvT-loop
 Inv-loop s ok₀ i₀ ok i = (i ≤ length s) × (ok && blank (drop i s) ≡ blank s)
@@ -17,27 +15,21 @@ Inv-loop s ok₀ i₀ ok i = (i ≤ length s) × (ok && blank (drop i s) ≡ bla
 abbrev μ-loop : tie.MeasureT-loop
 μ-loop s ok₀ i₀ ok i = length s - i
 
--- src/lib.rt:109:5
 loop-holds : tie.Need-loop-holds Inv-loop μ-loop
 loop-holds c = search needs
 
--- src/lib.rt:110:20
 shared-slice-read-ok : tie.Need-shared-slice-read-ok Inv-loop μ-loop
 shared-slice-read-ok c = search needs
 
--- src/lib.rt:111:9
 add-i : tie.Need-add-i Inv-loop μ-loop
 add-i c = search needs
 
--- src/lib.rt:109:5
 loop-less : tie.Need-loop-less Inv-loop μ-loop
 loop-less c = search needs
 
--- src/lib.rt:109:5
 loop-again : tie.Need-loop-again Inv-loop μ-loop
 loop-again c = let l = c .before .before .loop in (omega arith, blank-step (l .ok) (c .before .before .before .args .s .now) (l .i) (omega arith) ∙ l .inv .1)
 
--- src/lib.rt:104:1
 returns : tie.Need-returns Inv-loop μ-loop
 returns c = let l = c .before .loop in sym (blank-end (l .ok) (c .before .before .args .s .now) (l .i) (omega arith)) ∙ l .inv .1
 

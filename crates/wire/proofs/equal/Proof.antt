@@ -1,4 +1,4 @@
-use mathlib.Core.Path.{_≡_, refl, sym, ap, _∙_}
+use mathlib.Core.Path.{_≡_, sym, _∙_}
 use native.Mathlib.Omega.{arith}
 use Prim.Native.Nat.{_-_, _≤_}
 use mathlib.Core.Bool.{_&&_}
@@ -8,8 +8,6 @@ use Rattle.wire.specs.BytesLaws.{equal-step, equal-end, equal-length}
 use borrow.Author.Needs.{needs}
 use Rattle.wire.proofs.equal.Statement.{statement}
 use Rattle.wire.proofs.equal.Tie as tie
-use Rattle.wire.proofs.equal.Reads as reads
-use Rattle.wire.proofs.equal.Lts as lts
 
 abbrev Inv-loop : tie.InvT-loop
 Inv-loop a b ok₀ i₀ ok i = (i ≤ length a) × (length a ≡ length b) × (ok && equal (drop i a) (drop i b) ≡ equal a b)
@@ -17,35 +15,27 @@ Inv-loop a b ok₀ i₀ ok i = (i ≤ length a) × (length a ≡ length b) × (o
 abbrev μ-loop : tie.MeasureT-loop
 μ-loop a b ok₀ i₀ ok i = length a - i
 
--- src/lib.rt:92:9
 returns : tie.Need-returns Inv-loop μ-loop
 returns c = sym (equal-length _ _ (c .if1 .taken))
 
--- src/lib.rt:96:5
 loop-holds : tie.Need-loop-holds Inv-loop μ-loop
 loop-holds c = search needs
 
--- src/lib.rt:97:20
 shared-slice-read-ok : tie.Need-shared-slice-read-ok Inv-loop μ-loop
 shared-slice-read-ok c = search needs
 
--- src/lib.rt:97:28
 shared-slice-read-ok-2 : tie.Need-shared-slice-read-ok-2 Inv-loop μ-loop
 shared-slice-read-ok-2 c = search needs
 
--- src/lib.rt:98:9
 add-i : tie.Need-add-i Inv-loop μ-loop
 add-i c = search needs
 
--- src/lib.rt:96:5
 loop-less : tie.Need-loop-less Inv-loop μ-loop
 loop-less c = search needs
 
--- src/lib.rt:96:5
 loop-again : tie.Need-loop-again Inv-loop μ-loop
 loop-again c = let l = c .before .before .before .loop in let a = c .before .before .before .before .before .args in (omega arith, omega arith, equal-step (l .ok) (a .a .now) (a .b .now) (l .i) (omega arith) (omega arith) ∙ l .inv .2)
 
--- src/lib.rt:88:1
 returns-2 : tie.Need-returns-2 Inv-loop μ-loop
 returns-2 c = let l = c .before .loop in let a = c .before .before .before .args in sym (equal-end (l .ok) (a .a .now) (a .b .now) (l .i) (omega arith) (omega arith)) ∙ l .inv .2
 

@@ -1,81 +1,59 @@
-use native.Mathlib.Omega.{arith}
 use Rattle.wire.specs.Bytes.{get32}
 use borrow.Author.Needs.{needs}
 use Rattle.wire.proofs.get32.Statement.{statement}
 use Rattle.wire.proofs.get32.Tie as tie
-use Rattle.wire.proofs.get32.Reads as reads
-use Rattle.wire.proofs.get32.Lts as lts
-use Rattle.wire.proofs.wide32.Reads as wide32-reads
 
--- src/lib.rt:33:12
 shared-slice-read-wide32 : tie.Need-shared-slice-read-wide32
 shared-slice-read-wide32 c = search needs
 
--- src/lib.rt:33:5
 wide32-requires : tie.Need-wide32-requires
 wide32-requires c κs = search needs
 
--- src/lib.rt:33:5
 mul-result : tie.Need-mul-result
 mul-result c = search needs
 
--- src/lib.rt:34:20
 add-wide32 : tie.Need-add-wide32
 add-wide32 c = search needs
 
--- src/lib.rt:34:18
 shared-slice-read-wide32-2 : tie.Need-shared-slice-read-wide32-2
 shared-slice-read-wide32-2 c = search needs
 
--- src/lib.rt:34:11
 wide32-requires-2 : tie.Need-wide32-requires-2
 wide32-requires-2 c κs = search needs
 
--- src/lib.rt:34:11
 mul-result-2 : tie.Need-mul-result-2
 mul-result-2 c = search needs
 
--- src/lib.rt:33:5
 add-result : tie.Need-add-result
 add-result c = search needs
 
--- src/lib.rt:35:20
 add-wide32-2 : tie.Need-add-wide32-2
 add-wide32-2 c = search needs
 
--- src/lib.rt:35:18
 shared-slice-read-wide32-3 : tie.Need-shared-slice-read-wide32-3
 shared-slice-read-wide32-3 c = search needs
 
--- src/lib.rt:35:11
 wide32-requires-3 : tie.Need-wide32-requires-3
 wide32-requires-3 c κs = search needs
 
--- src/lib.rt:35:11
 mul-result-3 : tie.Need-mul-result-3
 mul-result-3 c = search needs
 
--- src/lib.rt:33:5
 add-result-2 : tie.Need-add-result-2
 add-result-2 c = search needs
 
--- src/lib.rt:36:20
 add-wide32-3 : tie.Need-add-wide32-3
 add-wide32-3 c = search needs
 
--- src/lib.rt:36:18
 shared-slice-read-wide32-4 : tie.Need-shared-slice-read-wide32-4
 shared-slice-read-wide32-4 c = search needs
 
--- src/lib.rt:36:11
 wide32-requires-4 : tie.Need-wide32-requires-4
 wide32-requires-4 c κs = search needs
 
--- src/lib.rt:33:5
 add-result-3 : tie.Need-add-result-3
 add-result-3 c = search needs
 
--- src/lib.rt:29:1
 returns : tie.Need-returns
 unfolding get32
 returns c = cc

@@ -1,6 +1,6 @@
-use mathlib.Core.Path.{_≡_, refl, sym, ap, ap₂, _∙_}
+use mathlib.Core.Path.{_≡_, sym, _∙_}
 use native.Mathlib.Omega.{arith}
-use Prim.Native.Nat.{ℕ, _+_, _*_, _-_, _≤_, _<_, min}
+use Prim.Native.Nat.{_-_, _≤_}
 use native.Mathlib.Numerals.{add-one}
 use lib.ListN.{length, drop, length-append}
 use Rattle.log.specs.Entry.{changes}
@@ -8,9 +8,6 @@ use Rattle.log.specs.EntryLaws.{changes-none, changes-same, changes-more
 use borrow.Author.Needs.{needs}
 use Rattle.log.proofs.entry.count_changed.Statement.{statement}
 use Rattle.log.proofs.entry.count_changed.Tie as tie
-use Rattle.log.proofs.entry.count_changed.Reads as reads
-use Rattle.log.proofs.entry.count_changed.Lts as lts
-use Rattle.log.proofs.entry.same_page.Reads as same-page-reads
 
 abbrev Inv-loop : tie.InvT-loop
 Inv-loop image home space pages k₀ p₀ k p = (p ≤ pages) × (k ≤ p) × (k ≡ length (changes (drop home image) space p))
@@ -18,49 +15,39 @@ Inv-loop image home space pages k₀ p₀ k p = (p ≤ pages) × (k ≤ p) × (k
 abbrev μ-loop : tie.MeasureT-loop
 μ-loop image home space pages k₀ p₀ k p = pages - p
 
--- src/entry.rt:97:5
 loop-holds : tie.Need-loop-holds Inv-loop μ-loop
 loop-holds c = (omega arith, omega arith, rw changes-none)
 
--- src/entry.rt:98:12
 same-page-requires : tie.Need-same-page-requires Inv-loop μ-loop
 same-page-requires c κs = search needs
 
--- src/entry.rt:99:13
 add-p : tie.Need-add-p Inv-loop μ-loop
 add-p c = search needs
 
--- src/entry.rt:97:5
 loop-less : tie.Need-loop-less Inv-loop μ-loop
 loop-less c = search needs
 
--- src/entry.rt:97:5
 loop-again : tie.Need-loop-again Inv-loop μ-loop
 loop-again c =
     let a = c .before .before .before .before .before .before .args in
     let l = c .before .before .before .loop in
     (omega arith, omega arith, rw (add-one (l .p), changes-same (drop (a .home) (a .image .now)) (a .space .now) (l .p) (sym (c .before .same-page .ensures) ∙ c .if1 .taken)) (l .inv .2))
 
--- src/entry.rt:101:13
 add-k : tie.Need-add-k Inv-loop μ-loop
 add-k c = search needs
 
--- src/entry.rt:102:13
 add-p-2 : tie.Need-add-p-2 Inv-loop μ-loop
 add-p-2 c = search needs
 
--- src/entry.rt:97:5
 loop-less-2 : tie.Need-loop-less-2 Inv-loop μ-loop
 loop-less-2 c = search needs
 
--- src/entry.rt:97:5
 loop-again-2 : tie.Need-loop-again-2 Inv-loop μ-loop
 loop-again-2 c =
     let a = c .before .before .before .before .before .before .args in
     let l = c .before .before .before .loop in
     (omega arith, omega arith, rw (add-one (l .p), changes-more (drop (a .home) (a .image .now)) (a .space .now) (l .p) (sym (c .before .same-page .ensures) ∙ c .if1 .left), length-append) (omega arith))
 
--- src/entry.rt:91:1
 returns : tie.Need-returns Inv-loop μ-loop
 returns c =
     let l = c .before .loop in

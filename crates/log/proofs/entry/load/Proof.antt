@@ -1,40 +1,29 @@
-use mathlib.Core.Path.{_≡_, refl, sym, ap, ap₂, _∙_}
+use mathlib.Core.Path.{_∙_}
 use native.Mathlib.Omega.{arith}
-use Prim.Native.Nat.{_+_, _-_}
-use lib.ListN.{length-take, length-drop, replicate}
+use lib.ListN.{replicate}
 use Rattle.wire.specs.BytesLaws.{over-whole, part-of, length-part}
 use borrow.Author.Needs.{needs}
 use Rattle.log.proofs.entry.load.Statement.{statement}
 use Rattle.log.proofs.entry.load.Tie as tie
-use Rattle.log.proofs.entry.load.Reads as reads
-use Rattle.log.proofs.entry.load.Lts as lts
-use Rattle.wire.proofs.copy.Reads as copy-reads
 
--- src/entry.rt:40:15
 add-end : tie.Need-add-end
 add-end c = search needs
 
--- src/entry.rt:41:16
 slice-aggregate-copy : tie.Need-slice-aggregate-copy
 slice-aggregate-copy c = search needs
 
--- src/entry.rt:41:31
 sub-copy : tie.Need-sub-copy
 sub-copy c = search needs
 
--- src/entry.rt:41:31
 part-copy-start : tie.Need-part-copy-start
 part-copy-start c = search needs
 
--- src/entry.rt:41:31
 part-copy-end : tie.Need-part-copy-end
 part-copy-end c = search needs
 
--- src/entry.rt:41:5
 copy-requires : tie.Need-copy-requires
 copy-requires c κs = search needs
 
--- src/entry.rt:35:1
 returns : tie.Need-returns
 returns c =
     let a = c .before .before .before .before .before .args in

@@ -1,6 +1,6 @@
-use mathlib.Core.Path.{_≡_, refl, sym, ap, ap₂, _∙_}
+use mathlib.Core.Path.{_≡_, refl, sym, ap, _∙_}
 use native.Mathlib.Omega.{arith}
-use Prim.Native.Nat.{ℕ, _+_, _*_, _-_, _≤_, _<_, min}
+use Prim.Native.Nat.{_*_, _-_, _≤_}
 use native.Mathlib.Numerals.{add-one}
 use lib.ListN.{length, drop, length-append}
 use Rattle.wire.specs.Bytes.{equal}
@@ -12,10 +12,6 @@ use Rattle.log.specs.Turns.{logged-more, logged-home, changes-room}
 use borrow.Author.Needs.{needs}
 use Rattle.log.proofs.entry.log_pages.Statement.{statement}
 use Rattle.log.proofs.entry.log_pages.Tie as tie
-use Rattle.log.proofs.entry.log_pages.Reads as reads
-use Rattle.log.proofs.entry.log_pages.Lts as lts
-use Rattle.log.proofs.entry.log_entry.Reads as log-entry-reads
-use Rattle.log.proofs.entry.same_page.Reads as same-page-reads
 
 abbrev Inv-loop : tie.InvT-loop
 Inv-loop image₀ home space pages v₀ k₀ p₀ image v k p = (p ≤ pages) × (k ≤ p) × (k ≡ length (changes (drop home image₀) space p)) × (length image ≡ length image₀) × (drop home image ≡ drop home image₀) × Stage (v₀ .left) (v₀ .made) (logged 0 (changes (drop home image₀) space p)) image₀ (v .left) (v .made) image
@@ -28,24 +24,19 @@ tested : (c : tie.After-same-page Inv-loop μ-loop)
     → equal (page (drop (c .before .before .before .before .before .before .args .home) (c .before .before .before .before .before .before .args .image .now)) (c .before .before .before .loop .p)) (page (c .before .before .before .before .before .before .args .space .now) (c .before .before .before .loop .p)) ≡ c .same-page .result
 tested c = ap (λ H. equal (page H (c .before .before .before .loop .p)) (page (c .before .before .before .before .before .before .args .space .now) (c .before .before .before .loop .p))) (sym (c .before .before .before .loop .inv .4)) ∙ sym (c .same-page .ensures)
 
--- src/entry.rt:129:5
 loop-holds : tie.Need-loop-holds Inv-loop μ-loop
 unfolding logged
 loop-holds c = (omega arith, omega arith, rw changes-none, refl, refl, rw changes-none (stage-none _ _ _))
 
--- src/entry.rt:130:12
 same-page-requires : tie.Need-same-page-requires Inv-loop μ-loop
 same-page-requires c κs = search needs
 
--- src/entry.rt:131:13
 add-p : tie.Need-add-p Inv-loop μ-loop
 add-p c = search needs
 
--- src/entry.rt:129:5
 loop-less : tie.Need-loop-less Inv-loop μ-loop
 loop-less c = search needs
 
--- src/entry.rt:129:5
 loop-again : tie.Need-loop-again Inv-loop μ-loop
 loop-again c =
     let a = c .before .before .before .before .before .before .before .args in
@@ -53,15 +44,12 @@ loop-again c =
     let same = changes-same (drop (a .home) (a .image .now)) (a .space .now) (l .p) (tested (c .before) ∙ c .if1 .taken) in
     (omega arith, omega arith, rw (add-one (l .p), same) (l .inv .2), l .inv .3, l .inv .4, rw (add-one (l .p), same) (l .inv .5))
 
--- src/entry.rt:133:39
 mul-log-entry : tie.Need-mul-log-entry Inv-loop μ-loop
 mul-log-entry c = search needs
 
--- src/entry.rt:133:34
 add-log-entry : tie.Need-add-log-entry Inv-loop μ-loop
 add-log-entry c = search needs
 
--- src/entry.rt:133:13
 log-entry-requires : tie.Need-log-entry-requires Inv-loop μ-loop
 log-entry-requires c κs =
     let a = c .before .before .before .before .before .before .before .before .args in
@@ -69,19 +57,15 @@ log-entry-requires c κs =
     let room = changes-room (drop (a .home) (a .image .now)) (a .space .now) (l .p) (a .pages) (tested (c .before .before) ∙ c .before .if1 .left) (omega arith) in
     omega arith
 
--- src/entry.rt:134:13
 add-k : tie.Need-add-k Inv-loop μ-loop
 add-k c = search needs
 
--- src/entry.rt:135:13
 add-p-2 : tie.Need-add-p-2 Inv-loop μ-loop
 add-p-2 c = search needs
 
--- src/entry.rt:129:5
 loop-less-2 : tie.Need-loop-less-2 Inv-loop μ-loop
 loop-less-2 c = search needs
 
--- src/entry.rt:129:5
 loop-again-2 : tie.Need-loop-again-2 Inv-loop μ-loop
 loop-again-2 c =
     let a = c .before .before .before .before .before .before .before .before .before .before .before .args in
@@ -98,11 +82,9 @@ loop-again-2 c =
       rw (add-one (l .p), changes-more H (a .space .now) (l .p) differs) (logged-more (changes H (a .space .now) (l .p)) (record { page = l .p; bytes = page (a .space .now) (l .p) }) (l .k) (l .inv .2) (l .inv .5) (c .before .before .log-entry .ensures)),
     )
 
--- src/entry.rt:122:1
 same-length : tie.Need-same-length Inv-loop μ-loop
 same-length c = search needs
 
--- src/entry.rt:122:1
 returns : tie.Need-returns Inv-loop μ-loop
 returns c =
     let l = c .before .loop in

@@ -1,8 +1,7 @@
-use mathlib.Core.Path.{_≡_, refl, sym, ap, ap₂, _∙_}
+use mathlib.Core.Path.{_≡_, refl}
 use native.Mathlib.Omega.{arith}
-use Prim.Native.Nat.{ℕ, _+_, _*_, _-_, _≤_, _<_, min}
+use Prim.Native.Nat.{_+_, _*_, _-_, _≤_}
 use native.Mathlib.Nat.{sub-zero}
-use mathlib.Core.List.{[], _∷_}
 use lib.ListN.{length}
 use Rattle.wire.specs.All.{All, all-head, all-tail}
 use Rattle.log.specs.Entry.{entry, entries, replay}
@@ -12,9 +11,6 @@ use Rattle.log.specs.Turns.{replayed-entry, replayed-more}
 use borrow.Author.Needs.{needs}
 use Rattle.log.proofs.entry.replay.Statement.{statement}
 use Rattle.log.proofs.entry.replay.Tie as tie
-use Rattle.log.proofs.entry.replay.Reads as reads
-use Rattle.log.proofs.entry.replay.Lts as lts
-use Rattle.log.proofs.entry.replay_one.Reads as replay-one-reads
 
 abbrev Inv-loop : tie.InvT-loop
 Inv-loop image₀ k home v₀ j₀ image v j = (j ≤ k) × (length image ≡ length image₀) × All (λ e. home + 64 * e .page + 64 ≤ length image₀) (entries image₀ j (k - j)) × Stage (v₀ .left) (v₀ .made) (replay home (entries image₀ 0 j)) image₀ (v .left) (v .made) image
@@ -22,12 +18,10 @@ Inv-loop image₀ k home v₀ j₀ image v j = (j ≤ k) × (length image ≡ le
 abbrev μ-loop : tie.MeasureT-loop
 μ-loop image₀ k home v₀ j₀ image v j = k - j
 
--- src/entry.rt:62:5
 loop-holds : tie.Need-loop-holds Inv-loop μ-loop
 unfolding replay
 loop-holds c = (omega arith, refl, rw sub-zero (c .before .pre .1), rw entries-none (stage-none _ _ _))
 
--- src/entry.rt:63:9
 replay-one-requires : tie.Need-replay-one-requires Inv-loop μ-loop
 replay-one-requires c κs =
     let a = c .before .before .before .before .args in
@@ -36,15 +30,12 @@ replay-one-requires c κs =
     let same = replayed-entry (a .home) (l .j) (entries (a .image .now) 0 (l .j)) (l .inv .3) (omega arith) in
     (omega arith, rw same (omega (arith, first)), omega arith)
 
--- src/entry.rt:64:9
 add-j : tie.Need-add-j Inv-loop μ-loop
 add-j c = search needs
 
--- src/entry.rt:62:5
 loop-less : tie.Need-loop-less Inv-loop μ-loop
 loop-less c = search needs
 
--- src/entry.rt:62:5
 loop-again : tie.Need-loop-again Inv-loop μ-loop
 loop-again c =
     let a = c .before .before .before .before .before .before .before .args in
@@ -55,11 +46,9 @@ loop-again c =
       replayed-more (a .home) (l .j) (omega arith) (l .inv .3) (c .before .before .replay-one .ensures),
     )
 
--- src/entry.rt:56:1
 same-length : tie.Need-same-length Inv-loop μ-loop
 same-length c = search needs
 
--- src/entry.rt:56:1
 returns : tie.Need-returns Inv-loop μ-loop
 returns c =
     let l = c .before .loop in

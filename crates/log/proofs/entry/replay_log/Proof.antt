@@ -3,28 +3,19 @@ use Rattle.log.specs.Stage.{stage-more}
 use borrow.Author.Needs.{needs}
 use Rattle.log.proofs.entry.replay_log.Statement.{statement}
 use Rattle.log.proofs.entry.replay_log.Tie as tie
-use Rattle.log.proofs.entry.replay_log.Reads as reads
-use Rattle.log.proofs.entry.replay_log.Lts as lts
-use Rattle.log.proofs.entry.replay.Reads as replay-reads
-use Rattle.log.proofs.meter.write_at.Reads as write-at-reads
 
--- src/entry.rt:74:9
 replay-requires : tie.Need-replay-requires
 replay-requires c κs = search needs
 
--- src/entry.rt:76:32
 slice-aggregate-write-at : tie.Need-slice-aggregate-write-at
 slice-aggregate-write-at c = search needs
 
--- src/entry.rt:76:5
 write-at-requires : tie.Need-write-at-requires
 write-at-requires c κs = search needs
 
--- src/entry.rt:70:1
 same-length : tie.Need-same-length
 same-length c = search needs
 
--- src/entry.rt:70:1
 returns : tie.Need-returns
 unfolding recoverStores clearMark
 returns c = stage-more (c .before .before .before .before .before .before .before .replay .ensures) (c .before .before .write-at .ensures)

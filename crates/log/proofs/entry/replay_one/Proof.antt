@@ -1,6 +1,6 @@
-use mathlib.Core.Path.{_≡_, refl, sym, ap, ap₂, _∙_}
+use mathlib.Core.Path.{ap, _∙_}
 use native.Mathlib.Omega.{arith}
-use Prim.Native.Nat.{ℕ, _+_, _*_, _-_, _≤_, _<_, min}
+use Prim.Native.Nat.{_+_, _*_}
 use lib.ListN.{length}
 use Rattle.wire.specs.BytesLaws.{length-part}
 use Rattle.log.specs.Entry.{entry}
@@ -8,53 +8,37 @@ use Rattle.log.specs.Turns.{replayed-one}
 use borrow.Author.Needs.{needs}
 use Rattle.log.proofs.entry.replay_one.Statement.{statement}
 use Rattle.log.proofs.entry.replay_one.Tie as tie
-use Rattle.log.proofs.entry.replay_one.Reads as reads
-use Rattle.log.proofs.entry.replay_one.Lts as lts
-use Rattle.log.proofs.entry.load.Reads as load-reads
-use Rattle.log.proofs.meter.write_at.Reads as write-at-reads
-use Rattle.wire.proofs.get16.Reads as get16-reads
 
--- src/entry.rt:50:37
 mul-get16 : tie.Need-mul-get16
 mul-get16 c = search needs
 
--- src/entry.rt:50:32
 add-get16 : tie.Need-add-get16
 add-get16 c = search needs
 
--- src/entry.rt:50:9
 get16-requires : tie.Need-get16-requires
 get16-requires c κs = search needs
 
--- src/entry.rt:51:34
 mul-load : tie.Need-mul-load
 mul-load c = search needs
 
--- src/entry.rt:51:29
 add-load : tie.Need-add-load
 add-load c = search needs
 
--- src/entry.rt:51:29
 add-load-2 : tie.Need-add-load-2
 add-load-2 c = search needs
 
--- src/entry.rt:51:17
 load-requires : tie.Need-load-requires
 load-requires c κs = search needs
 
--- src/entry.rt:52:35
 mul-write-at : tie.Need-mul-write-at
 mul-write-at c = search needs
 
--- src/entry.rt:52:28
 add-write-at : tie.Need-add-write-at
 add-write-at c = search needs
 
--- src/entry.rt:52:43
 slice-aggregate-write-at : tie.Need-slice-aggregate-write-at
 slice-aggregate-write-at c = search needs
 
--- src/entry.rt:52:5
 write-at-requires : tie.Need-write-at-requires
 unfolding entry
 write-at-requires c κs =
@@ -62,11 +46,9 @@ write-at-requires c κs =
     let long = ap length (c .before .before .load .ensures) ∙ length-part (a .image .now) (64 + 66 * a .j + 2) 64 (omega arith) in
     omega arith
 
--- src/entry.rt:46:1
 same-length : tie.Need-same-length
 same-length c = search needs
 
--- src/entry.rt:46:1
 returns : tie.Need-returns
 returns c =
     let a = c .before .before .before .before .before .before .before .before .before .before .args in

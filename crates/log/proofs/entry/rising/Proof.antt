@@ -1,15 +1,12 @@
 use native.Mathlib.Nat.{sub-zero}
-use mathlib.Core.Path.{_≡_, refl, sym, ap, ap₂, _∙_}
+use mathlib.Core.Path.{_≡_, sym, _∙_}
 use native.Mathlib.Omega.{arith}
-use Prim.Native.Nat.{ℕ, _+_, _*_, _-_, _≤_, _<_, min}
+use Prim.Native.Nat.{_-_, _≤_}
 use Rattle.log.specs.Entry.{entries, rising}
 use Rattle.log.specs.EntryLaws.{rising-low, rising-high, rising-next, rising-end}
 use borrow.Author.Needs.{needs}
 use Rattle.log.proofs.entry.rising.Statement.{statement}
 use Rattle.log.proofs.entry.rising.Tie as tie
-use Rattle.log.proofs.entry.rising.Reads as reads
-use Rattle.log.proofs.entry.rising.Lts as lts
-use Rattle.wire.proofs.get16.Reads as get16-reads
 
 abbrev Inv-loop : tie.InvT-loop
 Inv-loop image k limit low₀ j₀ low j = (j ≤ k) × (rising 0 limit (entries image 0 k) ≡ rising low limit (entries image j (k - j)))
@@ -17,56 +14,45 @@ Inv-loop image k limit low₀ j₀ low j = (j ≤ k) × (rising 0 limit (entries
 abbrev μ-loop : tie.MeasureT-loop
 μ-loop image k limit low₀ j₀ low j = k - j
 
--- src/entry.rt:21:5
 loop-holds : tie.Need-loop-holds Inv-loop μ-loop
 loop-holds c = (omega arith, rw sub-zero)
 
--- src/entry.rt:22:41
 mul-get16 : tie.Need-mul-get16 Inv-loop μ-loop
 mul-get16 c = search needs
 
--- src/entry.rt:22:36
 add-get16 : tie.Need-add-get16 Inv-loop μ-loop
 add-get16 c = search needs
 
--- src/entry.rt:22:13
 get16-requires : tie.Need-get16-requires Inv-loop μ-loop
 get16-requires c κs = search needs
 
--- src/entry.rt:24:13
 returns : tie.Need-returns Inv-loop μ-loop
 returns c =
     let a = c .before .before .before .before .before .args in
     let l = c .before .before .before .loop in
     sym (l .inv .1 ∙ rising-low (a .image .now) (a .limit) (l .low) (l .j) (a .k) _ (omega arith) (c .before .get16 .ensures .0) (omega arith))
 
--- src/entry.rt:27:13
 returns-2 : tie.Need-returns-2 Inv-loop μ-loop
 returns-2 c =
     let a = c .before .before .before .before .before .before .args in
     let l = c .before .before .before .before .loop in
     sym (l .inv .1 ∙ rising-high (a .image .now) (a .limit) (l .low) (l .j) (a .k) _ (omega arith) (c .before .before .get16 .ensures .0) (omega arith) (omega arith))
 
--- src/entry.rt:29:15
 add-low : tie.Need-add-low Inv-loop μ-loop
 add-low c = search needs
 
--- src/entry.rt:30:9
 add-j : tie.Need-add-j Inv-loop μ-loop
 add-j c = search needs
 
--- src/entry.rt:21:5
 loop-less : tie.Need-loop-less Inv-loop μ-loop
 loop-less c = search needs
 
--- src/entry.rt:21:5
 loop-again : tie.Need-loop-again Inv-loop μ-loop
 loop-again c =
     let a = c .before .before .before .before .before .before .args in
     let l = c .before .before .before .before .loop in
     (omega arith, l .inv .1 ∙ rising-next (a .image .now) (a .limit) (l .low) (l .j) (a .k) _ (omega arith) (c .before .before .get16 .ensures .0) (omega arith) (omega arith))
 
--- src/entry.rt:15:1
 returns-3 : tie.Need-returns-3 Inv-loop μ-loop
 returns-3 c =
     let a = c .before .before .before .args in

@@ -1,6 +1,6 @@
-use mathlib.Core.Path.{_≡_, refl, sym, ap, ap₂, _∙_}
+use mathlib.Core.Path.{_≡_, refl, sym}
 use native.Mathlib.Omega.{arith}
-use Prim.Native.Nat.{ℕ, _+_, _*_, _-_, _≤_, _<_, min}
+use Prim.Native.Nat.{_-_, _≤_}
 use native.Mathlib.Nat.{zero-add}
 use lib.ListN.{length, take, length-set}
 use Rattle.wire.specs.Bytes.{over}
@@ -9,10 +9,6 @@ use Rattle.log.specs.Stage.{stage-run}
 use borrow.Author.Needs.{needs}
 use Rattle.log.proofs.meter.write_run.Statement.{statement}
 use Rattle.log.proofs.meter.write_run.Tie as tie
-use Rattle.log.proofs.meter.write_run.Reads as reads
-use Rattle.log.proofs.meter.write_run.Lts as lts
-use Rattle.log.proofs.meter.least.Reads as least-reads
-use Rattle.log.proofs.meter.spent.Reads as spent-reads
 
 abbrev Inv-loop : tie.InvT-loop
 Inv-loop dst₀ src m n i₀ dst i = (i ≤ n) × (dst ≡ over dst₀ 0 (take i src)) × (length dst ≡ length dst₀)
@@ -20,31 +16,24 @@ Inv-loop dst₀ src m n i₀ dst i = (i ≤ n) × (dst ≡ over dst₀ 0 (take i
 abbrev μ-loop : tie.MeasureT-loop
 μ-loop dst₀ src m n i₀ dst i = n - i
 
--- src/meter.rt:36:9
 least-requires : tie.Need-least-requires Inv-loop μ-loop
 least-requires c κs = search needs
 
--- src/meter.rt:38:5
 loop-holds : tie.Need-loop-holds Inv-loop μ-loop
 loop-holds c = (omega arith, sym (over-nil _ 0), refl)
 
--- src/meter.rt:39:18
 shared-slice-read-dst : tie.Need-shared-slice-read-dst Inv-loop μ-loop
 shared-slice-read-dst c = search needs
 
--- src/meter.rt:39:9
 slice-write-dst : tie.Need-slice-write-dst Inv-loop μ-loop
 slice-write-dst c = search needs
 
--- src/meter.rt:40:9
 add-i : tie.Need-add-i Inv-loop μ-loop
 add-i c = search needs
 
--- src/meter.rt:38:5
 loop-less : tie.Need-loop-less Inv-loop μ-loop
 loop-less c = search needs
 
--- src/meter.rt:38:5
 loop-again : tie.Need-loop-again Inv-loop μ-loop
 loop-again c =
     let l = c .before .before .loop in
@@ -52,15 +41,12 @@ loop-again c =
     let turn = over-take (a .dst .now) 0 (a .src .now) (l .i) (omega arith) in
     (omega arith, rw (l .inv .1) (rw (zero-add (l .i)) at turn), simp length-set (omega arith))
 
--- src/meter.rt:42:5
 spent-requires : tie.Need-spent-requires Inv-loop μ-loop
 spent-requires c κs = search needs
 
--- src/meter.rt:32:1
 same-length : tie.Need-same-length Inv-loop μ-loop
 same-length c = search needs
 
--- src/meter.rt:32:1
 returns : tie.Need-returns Inv-loop μ-loop
 returns c =
     let a = c .before .before .before .before .before .before .args in

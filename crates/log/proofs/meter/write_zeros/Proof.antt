@@ -1,6 +1,6 @@
-use mathlib.Core.Path.{_≡_, refl, sym, ap, ap₂, _∙_}
+use mathlib.Core.Path.{sym, ap, _∙_}
 use native.Mathlib.Omega.{arith}
-use Prim.Native.Nat.{ℕ, _+_, _*_, _-_, _≤_, _<_, min}
+use Prim.Native.Nat.{ℕ, _-_}
 use lib.ListN.{length, replicate, length-replicate}
 use Rattle.wire.specs.Bytes.{over}
 use Rattle.wire.specs.BytesLaws.{take-replicate}
@@ -8,33 +8,22 @@ use Rattle.log.specs.Stage.{stage-run}
 use borrow.Author.Needs.{needs}
 use Rattle.log.proofs.meter.write_zeros.Statement.{statement}
 use Rattle.log.proofs.meter.write_zeros.Tie as tie
-use Rattle.log.proofs.meter.write_zeros.Reads as reads
-use Rattle.log.proofs.meter.write_zeros.Lts as lts
-use Rattle.log.proofs.meter.least.Reads as least-reads
-use Rattle.log.proofs.meter.spent.Reads as spent-reads
-use Rattle.wire.proofs.fill.Reads as fill-reads
 
--- src/meter.rt:59:27
 sub-least : tie.Need-sub-least
 sub-least c = search needs
 
--- src/meter.rt:59:9
 least-requires : tie.Need-least-requires
 least-requires c κs = search needs
 
--- src/meter.rt:60:5
 fill-requires : tie.Need-fill-requires
 fill-requires c κs = search needs
 
--- src/meter.rt:61:5
 spent-requires : tie.Need-spent-requires
 spent-requires c κs = search needs
 
--- src/meter.rt:55:1
 same-length : tie.Need-same-length
 same-length c = search needs
 
--- src/meter.rt:55:1
 returns : tie.Need-returns
 returns c =
     let a = c .before .before .before .before .before .before .before .args in

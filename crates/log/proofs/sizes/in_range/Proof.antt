@@ -1,23 +1,18 @@
-use mathlib.Core.Path.{_≡_, refl, sym, ap, ap₂, _∙_}
+use mathlib.Core.Path.{refl}
 use borrow.Author.Tests.{lt-leb}
 use Rattle.wire.specs.Cases.{and-false}
 use Rattle.log.specs.Image.{inRange}
 use borrow.Author.Needs.{needs}
 use Rattle.log.proofs.sizes.in_range.Statement.{statement}
 use Rattle.log.proofs.sizes.in_range.Tie as tie
-use Rattle.log.proofs.sizes.in_range.Reads as reads
-use Rattle.log.proofs.sizes.in_range.Lts as lts
 
--- src/sizes.rt:17:9
 returns : tie.Need-returns
 unfolding inRange
 returns c = rw (lt-leb _ _ (c .if1 .taken), and-false)
 
--- src/sizes.rt:19:69
 add-result : tie.Need-add-result
 add-result c = search needs
 
--- src/sizes.rt:13:1
 returns-2 : tie.Need-returns-2
 unfolding inRange
 returns-2 c = refl
