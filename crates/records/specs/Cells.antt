@@ -6,7 +6,7 @@ use native.Mathlib.Omega.{arith}
 use native.Mathlib.Numerals.{add-one}
 use lib.ListN.{length, take, drop, set, getD}
 use Rattle.wire.specs.Bytes.{over, get16, get32, bytes16, bytes32}
-use Rattle.wire.specs.BytesLaws.{over-cons, over-snoc}
+use Rattle.wire.specs.BytesLaws.{over-cons, over-snoc, over-append}
 use Rattle.records.specs.declared.Record.{Record}
 use Rattle.records.specs.Records.{key, recordAt, records, rest, bytesOf}
 
@@ -43,14 +43,6 @@ record-same l l' at at' f =
     let b6 : getD l' (at' + 5 + 1) 0 ≡ getD l (at + 5 + 1) 0 = b (at + 5 + 1) (at' + 5 + 1) 6 (omega arith) (omega arith) (omega arith) in
     let b7 : getD l' (at' + 7) 0 ≡ getD l (at + 7) 0 = f 7 (omega arith) in
     rw (b0, b1, b2, b3, b4, b5, b6, b7)
-
--- bytes written behind bytes
-pub over-append : (l : List ℕ) (at : ℕ) (bs cs : List ℕ) → over (over l at bs) (at + length bs) cs ≡ over l at (bs ++ cs)
-unfolding over
-over-append [] at bs cs = refl
-over-append (x ∷ l) zero [] cs = refl
-over-append (x ∷ l) zero (b ∷ bs) cs = let e : zero + suc (length bs) ≡ suc (zero + length bs) = omega arith in rw e (ap (_∷_ b) (over-append l zero bs cs))
-over-append (x ∷ l) (suc at) bs cs = let e : suc at + length bs ≡ suc (at + length bs) = omega arith in rw e (ap (_∷_ x) (over-append l at bs cs))
 
 -- a record stored field by field
 pub record-stored : (l : List ℕ) (at : ℕ) (r : Record)

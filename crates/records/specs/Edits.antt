@@ -5,9 +5,9 @@ use mathlib.Core.List.{List, [], _∷_, _++_, List·Memᴰ, List·Memᴰ·head, 
 use Prim.Native.Nat.{ℕ, zero, suc, _+_, _-_, _*_, _/_, _%_, _≤_, _<_}
 use native.Mathlib.Omega.{arith}
 use lib.ListN.{length, take, drop, set, getD, replicate, length-append, length-set, take-append-drop, List·getD-append}
-use lib.Seq.{getD-append-add, getD-set-same, getD-set-other, set-split, take-add, drop-drop, take-all, ext-getD}
-use Rattle.wire.specs.Bytes.{part, over, get16, get32, bytes16, bytes32}
-use Rattle.wire.specs.BytesLaws.{length-over, over-low, over-in, over-high, length-part, part-at, get16-over, get32-over, part-over}
+use lib.Seq.{getD-append-add, getD-set-same, getD-set-other, set-split, take-all, ext-getD}
+use Rattle.wire.specs.Bytes.{part, over, get16, get32, bytes16, bytes32, Bytes}
+use Rattle.wire.specs.BytesLaws.{length-over, over-low, over-in, over-high, length-part, part-at, get16-over, get32-over, part-over, part-add}
 use Rattle.records.specs.declared.Record.{Record}
 use Rattle.records.specs.Records.{Fits, key, rising, look, held, rank, insert, remove, lasting, amend, bytesOf, encode, recordAt, records, decode, up, down, inserted, removed, amended}
 use Rattle.records.specs.Order.{insert-at, remove-at, amend-at, rank-length}
@@ -32,9 +32,6 @@ record-back l at r f g =
     ∙ record-one r f
 
 -- what is read of bytes fits
-abbrev pub Bytes : List ℕ → Type 0
-Bytes l = (i : ℕ) → getD l i 0 < 256
-
 pub record-fits : (l : List ℕ) (at : ℕ) → Bytes l → Fits (recordAt l at)
 unfolding recordAt get32 get16
 record-fits l at b = record {
@@ -113,10 +110,6 @@ records-encode (x ∷ xs) f =
 
 pub decode-encode : (xs : List Record) → ((r : Record) → List·Memᴰ r xs → Fits r) → decode (encode xs) ≡ xs
 decode-encode xs f = let e : length (encode xs) / 8 ≡ length xs = omega (arith, length-encode xs) in rw e (records-encode xs f)
-
-pub part-add : (l : List ℕ) (at m n : ℕ) → part l at (m + n) ≡ part l at m ++ part l (at + m) n
-unfolding part
-part-add l at m n = take-add m n (drop at l) ∙ ap (λ (x : List ℕ). take m (drop at l) ++ take n x) (drop-drop m at l)
 
 -- the bytes of the records read from a run are that run
 pub encode-records : (l : List ℕ) (at n : ℕ) → Bytes l → at + 8 * n ≤ length l → encode (records l at n) ≡ part l at (8 * n)

@@ -7,7 +7,7 @@ use native.Mathlib.Omega.{arith}
 use lib.ListN.{length, getD}
 use Rattle.wire.specs.Bytes.{over}
 use Rattle.wire.specs.Cases.{by-lt}
-use Rattle.wire.specs.BytesLaws.{over-nil}
+use Rattle.wire.specs.BytesLaws.{over-nil, over-append}
 use borrow.Author.Tests.{le-leb, lt-leb}
 use Rattle.records.specs.declared.Record.{Record}
 use Rattle.records.specs.declared.Place.the-variants.{Found, Absent}
@@ -17,7 +17,7 @@ use Rattle.records.specs.declared.Merge.{Merge}
 use Rattle.records.specs.Records.{side, keeps, keep, ofFirst, ofSecond, next, tally, merge, bytesOf, encode, key, risingFrom, rising, rank, place, recordAt, decode, rest}
 use Rattle.records.specs.Order.{rank-length, rank-over, rank-under, place-found, place-absent, place-end}
 use Rattle.records.specs.Merging.{merge-first-end, merge-second-end, merge-none, merge-first, merge-second, merge-shared, side-first-end, side-second-end, side-first, side-second, side-shared}
-use Rattle.records.specs.Cells.{over-append, length-bytesOf, length-records, records-at, rest-more, rest-end, rest-all}
+use Rattle.records.specs.Cells.{length-bytesOf, length-records, records-at, rest-more, rest-end, rest-all}
 
 -- ---- the test of a rising list
 

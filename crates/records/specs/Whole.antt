@@ -6,12 +6,12 @@ use Prim.Native.Nat.{ℕ, zero, suc, _+_, _-_, _*_, _/_, _%_, _≤_, _<_}
 use native.Mathlib.Omega.{arith}
 use lib.ListN.{length, set, replicate, length-take, List·getD-eq-default}
 use lib.Seq.{take-all}
-use Rattle.wire.specs.Bytes.{part, over, bytes16, bytes32}
+use Rattle.wire.specs.Bytes.{part, over, bytes16, bytes32, Bytes}
 use Rattle.wire.specs.Cases.{by-lt}
-use Rattle.wire.specs.BytesLaws.{part-at}
+use Rattle.wire.specs.BytesLaws.{part-at, part-add}
 use Rattle.records.specs.declared.Record.{Record}
 use Rattle.records.specs.Records.{Fits, key, rising, look, held, rank, insert, remove, amend, bytesOf, encode, records, up, down, inserted, removed, amended}
-use Rattle.records.specs.Edits.{Bytes, encode-records, part-add, length-inserted, inserted-is, length-removed, removed-is, removed-last, length-amended, amended-is}
+use Rattle.records.specs.Edits.{encode-records, length-inserted, inserted-is, length-removed, removed-is, removed-last, length-amended, amended-is}
 
 -- ---- bytes stay bytes
 

@@ -1,5 +1,5 @@
 -- Runs of bytes and the numbers in them. All numbers are unsigned, most significant byte first.
-use Prim.Native.Nat.{ℕ, zero, suc, _+_, _*_, _/_, _%_}
+use Prim.Native.Nat.{ℕ, zero, suc, _+_, _*_, _/_, _%_, _<_}
 use mathlib.Core.Bool.{Bool, true, false, _&&_}
 use mathlib.Core.List.{List, [], _∷_}
 use lib.ListN.{take, drop, getD}
@@ -8,6 +8,10 @@ use lib.Dec.{eqb}
 abbrev pub pick {ℓ} : {A : Type ℓ} → Bool → A → A → A
 pick true a b = a
 pick false a b = b
+
+-- each value fits a byte
+abbrev pub Bytes : List ℕ → Type 0
+Bytes l = (i : ℕ) → getD l i 0 < 256
 
 -- the n bytes from offset `at` on
 unfoldable pub part : List ℕ → ℕ → ℕ → List ℕ

@@ -7,7 +7,7 @@ use native.Mathlib.Nat.{add-zero, sub-zero, zero-sub, suc-sub-suc, le-of-suc-le-
 use native.Mathlib.Numerals.{add-one}
 use mathlib.Core.List.{List, [], _∷_, _++_, append-assoc, append-nil}
 use lib.ListN.{length, take, drop, set, getD, replicate, length-take, length-drop, length-replicate, replicate-append-replicate, drop-of-length-le, take-append-drop}
-use lib.Seq.{getD-take, getD-drop, ext-getD, sets, sets-eq, drop-cons, drop-drop, take-suc, length-take-le}
+use lib.Seq.{getD-take, getD-drop, ext-getD, sets, sets-eq, drop-cons, drop-drop, take-add, take-suc, length-take-le}
 use lib.Dec.{eqb}
 use borrow.Author.Tests.{eq-eqb, eqb-true}
 use Rattle.wire.specs.Bytes.{part, over, get16, get32, bytes16, bytes32, equal, blank}
@@ -35,6 +35,11 @@ part-of l at n = let e : at + n - at ≡ n = omega arith in rw e
 pub part-drop : (l : List ℕ) (h at n : ℕ) → part (drop h l) at n ≡ part l (h + at) n
 unfolding part
 part-drop l h at n = rw drop-drop
+
+-- a part and what follows it
+pub part-add : (l : List ℕ) (at m n : ℕ) → part l at (m + n) ≡ part l at m ++ part l (at + m) n
+unfolding part
+part-add l at m n = take-add m n (drop at l) ∙ ap (λ (x : List ℕ). take m (drop at l) ++ take n x) (drop-drop m at l)
 
 -- a part depends on its own bytes only
 pub part-same : (l l' : List ℕ) (at n : ℕ) → length l' ≡ length l → ((i : ℕ) → at ≤ i → i < at + n → getD l' i 0 ≡ getD l i 0)
@@ -97,6 +102,14 @@ over-snoc [] at bs b = refl
 over-snoc (x ∷ l) zero [] b = ap (_∷_ b) (sym (over-nil l zero))
 over-snoc (x ∷ l) zero (c ∷ bs) b = let e : zero + suc (length bs) ≡ suc (zero + length bs) = omega arith in rw e (ap (_∷_ c) (over-snoc l zero bs b))
 over-snoc (x ∷ l) (suc at) bs b = let e : suc at + length bs ≡ suc (at + length bs) = omega arith in rw e (ap (_∷_ x) (over-snoc l at bs b))
+
+-- bytes written behind bytes
+pub over-append : (l : List ℕ) (at : ℕ) (bs cs : List ℕ) → over (over l at bs) (at + length bs) cs ≡ over l at (bs ++ cs)
+unfolding over
+over-append [] at bs cs = refl
+over-append (x ∷ l) zero [] cs = refl
+over-append (x ∷ l) zero (b ∷ bs) cs = let e : zero + suc (length bs) ≡ suc (zero + length bs) = omega arith in rw e (ap (_∷_ b) (over-append l zero bs cs))
+over-append (x ∷ l) (suc at) bs cs = let e : suc at + length bs ≡ suc (at + length bs) = omega arith in rw e (ap (_∷_ x) (over-append l at bs cs))
 
 -- stores one after the other
 pub over-sets : (l : List ℕ) (at : ℕ) (bs : List ℕ) → sets l at bs ≡ over l at bs
