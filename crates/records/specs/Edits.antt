@@ -12,7 +12,7 @@ use Rattle.records.specs.declared.Record.{Record}
 use Rattle.records.specs.Records.{Fits, key, rising, look, held, rank, insert, remove, lasting, amend, bytesOf, encode, recordAt, records, decode, up, down, inserted, removed, amended}
 use Rattle.records.specs.Order.{insert-at, remove-at, amend-at, rank-length}
 use Rattle.records.specs.Cells.{record-same, length-bytesOf, length-records, records-none, records-more, records-same, records-at, take-records, drop-records}
-use Rattle.records.specs.Moves.{length-up, up-low, up-high, downTo, downTo-low, downTo-in}
+use Rattle.records.specs.Moves.{length-up, up-low, up-high, length-down, down-low, down-in}
 
 -- ---- one record
 
@@ -182,15 +182,15 @@ inserted-is l n i r f g e =
 
 pub length-removed : (l : List ℕ) (i : ℕ) → length (removed l i) ≡ length l
 unfolding removed down
-length-removed l i = length-over (down l (8 * i)) (length l - 8) (replicate 8 0) ∙ length-over l (8 * i) (part l (8 * i + 8) (length l - (8 * i + 8)))
+length-removed l i = length-over (down l (8 * i)) (length l - 8) (replicate 8 0) ∙ length-down l (8 * i)
 
 removed-low : (l : List ℕ) (i k : ℕ) → 8 * i + 8 ≤ length l → k < 8 * i → getD (removed l i) k 0 ≡ getD l k 0
-unfolding removed down downTo
-removed-low l i k g h = over-low (down l (8 * i)) (length l - 8) (replicate 8 0) k (omega arith) ∙ downTo-low l (8 * i) (length l - (8 * i + 8)) k h
+unfolding removed
+removed-low l i k g h = over-low (down l (8 * i)) (length l - 8) (replicate 8 0) k (omega arith) ∙ down-low l (8 * i) k h
 
 removed-high : (l : List ℕ) (i k : ℕ) → 8 * i + 8 + k < length l → getD (removed l i) (8 * i + k) 0 ≡ getD l (8 * i + 8 + k) 0
-unfolding removed down downTo
-removed-high l i k g = over-low (down l (8 * i)) (length l - 8) (replicate 8 0) (8 * i + k) (omega arith) ∙ downTo-in l (8 * i) (length l - (8 * i + 8)) k (omega arith) (omega arith)
+unfolding removed
+removed-high l i k g = over-low (down l (8 * i)) (length l - 8) (replicate 8 0) (8 * i + k) (omega arith) ∙ down-in l (8 * i) k (omega arith)
 
 -- the freed cell is zero
 pub removed-last : (l : List ℕ) (i n : ℕ) → length l ≡ 8 * (n + 1) → part (removed l i) (8 * n) 8 ≡ replicate 8 0
@@ -198,7 +198,7 @@ unfolding removed down
 removed-last l i n g =
     let e : length l - 8 ≡ 8 * n = omega arith in
     let d : List ℕ = down l (8 * i) in
-    let f : length d ≡ length l = length-over l (8 * i) (part l (8 * i + 8) (length l - (8 * i + 8))) in
+    let f : length d ≡ length l = length-down l (8 * i) in
     rw e (part-over d (8 * n) (replicate 8 0) (omega arith))
 
 removed-records : (l : List ℕ) (n i : ℕ) → length l ≡ 8 * (n + 1) → i ≤ n → records (removed l i) 0 n ≡ take i (records l 0 (n + 1)) ++ drop (suc i) (records l 0 (n + 1))

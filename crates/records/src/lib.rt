@@ -6,7 +6,7 @@ ghost use Prim.Native.Nat.{_+_, _*_, _/_, _%_, _≤_, _<_};
 ghost use lib.ListN.{length, getD};
 ghost use lib.Dec.{ltb};
 ghost use Rattle.wire.specs.Bytes.{get32, over};
-ghost use Rattle.records.specs.Records.{key, recordAt, bytesOf, decode, rising as ordered, place, up, down, inserted, removed, amended, side, rest, ofFirst, ofSecond, keeps, keep, next, tally, merge, encode};
+ghost use Rattle.records.specs.Records.{key, recordAt, bytesOf, decode, rising as ordered, place, inserted, removed, amended, side, rest, ofFirst, ofSecond, keeps, keep, next, tally, merge, encode};
 
 // A call on record. Level, second and phone are its primary part.
 pub struct Record {
@@ -140,37 +140,14 @@ pub fn search(s: &[u8], key: u64) -> Place
     }
 }
 
-// Moves the bytes from an offset on up by a record's 8. The last 8 are lost.
-fn move_up(s: &mut [u8], at: usize)
-    requires { ⌜ at + 8 ≤ length (now s) ⌝ }
-    ensures { λ _. ⌜ now (s .exit) ≡ up (now (s .entry)) at ⌝ }
-{
-    let mut i = s.len() - 8;
-    while at < i {
-        i -= 1;
-        s[i + 8] = s[i];
-    }
-}
-
-// Moves the bytes behind the record at an offset down by 8. The last 8 stay.
-fn move_down(s: &mut [u8], at: usize)
-    requires { ⌜ at + 8 ≤ length (now s) ⌝ }
-    ensures { λ _. ⌜ now (s .exit) ≡ down (now (s .entry)) at ⌝ }
-{
-    let mut i = at;
-    while i + 8 < s.len() {
-        s[i] = s[i + 8];
-        i += 1;
-    }
-}
-
 // Puts a record in at a rank of a list that has a free cell behind it.
 pub fn insert(s: &mut [u8], i: usize, r: Record)
     requires { ⌜ (length (now s) % 8 ≡ 0) × (8 * i + 8 ≤ length (now s)) ⌝ }
     ensures { λ _. ⌜ now (s .exit) ≡ inserted (now (s .entry)) i r ⌝ }
 {
     let at = 8 * i;
-    move_up(s, at);
+    let behind = s.len() - (at + 8);
+    wire::copy_within(s, at, at + 8, behind);
     store(s, at, r);
 }
 
@@ -179,8 +156,10 @@ pub fn remove(s: &mut [u8], i: usize)
     requires { ⌜ (length (now s) % 8 ≡ 0) × (8 * i + 8 ≤ length (now s)) ⌝ }
     ensures { λ _. ⌜ now (s .exit) ≡ removed (now (s .entry)) i ⌝ }
 {
+    let at = 8 * i;
     let last = s.len() - 8;
-    move_down(s, 8 * i);
+    let behind = s.len() - (at + 8);
+    wire::copy_within(s, at + 8, at, behind);
     wire::fill(s, last, 8, 0);
 }
 

@@ -41,6 +41,19 @@ pub part-add : (l : List ℕ) (at m n : ℕ) → part l at (m + n) ≡ part l at
 unfolding part
 part-add l at m n = take-add m n (drop at l) ∙ ap (λ (x : List ℕ). take m (drop at l) ++ take n x) (drop-drop m at l)
 
+-- no byte, its first byte, and its last
+pub part-none : (l : List ℕ) (at : ℕ) → part l at 0 ≡ []
+unfolding part
+part-none l at = refl
+
+pub part-cons : (l : List ℕ) (at n : ℕ) → at < length l → part l at (suc n) ≡ getD l at 0 ∷ part l (suc at) n
+unfolding part
+part-cons l at n g = rw (drop-cons l at 0 g)
+
+pub part-snoc : (l : List ℕ) (at n : ℕ) → at + n < length l → part l at (n + 1) ≡ part l at n ++ (getD l (at + n) 0 ∷ [])
+unfolding part
+part-snoc l at n g = rw add-one (take-suc (drop at l) n 0 (rw length-drop (omega arith)) ∙ ap (λ (x : ℕ). take n (drop at l) ++ (x ∷ [])) (getD-drop at l n 0))
+
 -- a part depends on its own bytes only
 pub part-same : (l l' : List ℕ) (at n : ℕ) → length l' ≡ length l → ((i : ℕ) → at ≤ i → i < at + n → getD l' i 0 ≡ getD l i 0)
     → part l' at n ≡ part l at n
@@ -94,6 +107,13 @@ unfolding over
 over-cons [] at b bs = refl
 over-cons (x ∷ l) zero b bs = refl
 over-cons (x ∷ l) (suc at) b bs = ap (_∷_ x) (over-cons l at b bs)
+
+-- one byte stored before
+pub over-before : (l : List ℕ) (at b : ℕ) (bs : List ℕ) → set (over l (suc at) bs) at b ≡ over l at (b ∷ bs)
+unfolding over
+over-before [] at b bs = refl
+over-before (x ∷ l) zero b bs = refl
+over-before (x ∷ l) (suc at) b bs = ap (_∷_ x) (over-before l at b bs)
 
 -- one byte stored at the end
 pub over-snoc : (l : List ℕ) (at : ℕ) (bs : List ℕ) (b : ℕ) → set (over l at bs) (at + length bs) b ≡ over l at (bs ++ (b ∷ []))
@@ -244,6 +264,29 @@ over-take l at bs i g =
     ap (λ (k : ℕ). set (over l at (take i bs)) (at + k) (getD bs i 0)) (sym (length-take-le i bs (omega arith)))
     ∙ over-snoc l at (take i bs) (getD bs i 0)
     ∙ rw add-one (ap (over l at) (sym (take-suc bs i 0 g)))
+
+-- a run copied from its last byte down to a place behind it
+pub copy-up : (l : List ℕ) (from to n i : ℕ) → from < to → 0 < i → i ≤ n → to + n ≤ length l
+    → set (over l (to + i) (part l (from + i) (n - i))) (to + (i - 1)) (getD (over l (to + i) (part l (from + i) (n - i))) (from + (i - 1)) 0)
+    ≡ over l (to + (i - 1)) (part l (from + (i - 1)) (n - (i - 1)))
+copy-up l from to n i a b c d =
+    let t : to + i ≡ suc (to + (i - 1)) = omega arith in
+    let f : from + i ≡ suc (from + (i - 1)) = omega arith in
+    let k : n - (i - 1) ≡ suc (n - i) = omega arith in
+    ap (set (over l (to + i) (part l (from + i) (n - i))) (to + (i - 1))) (over-low l (to + i) (part l (from + i) (n - i)) (from + (i - 1)) (omega arith))
+    ∙ ap₂ (λ (x y : ℕ). set (over l x (part l y (n - i))) (to + (i - 1)) (getD l (from + (i - 1)) 0)) t f
+    ∙ over-before l (to + (i - 1)) (getD l (from + (i - 1)) 0) (part l (suc (from + (i - 1))) (n - i))
+    ∙ ap (over l (to + (i - 1))) (sym (ap (part l (from + (i - 1))) k ∙ part-cons l (from + (i - 1)) (n - i) (omega arith)))
+
+-- and from its first byte up to a place before it
+pub copy-down : (l : List ℕ) (from to n i : ℕ) → to ≤ from → i < n → from + n ≤ length l
+    → set (over l to (part l from i)) (to + i) (getD (over l to (part l from i)) (from + i) 0) ≡ over l to (part l from (i + 1))
+copy-down l from to n i a b c =
+    let long : length (part l from i) ≡ i = length-part l from i (omega arith) in
+    ap (set (over l to (part l from i)) (to + i)) (over-high l to (part l from i) (from + i) (omega arith))
+    ∙ ap (λ (k : ℕ). set (over l to (part l from i)) (to + k) (getD l (from + i) 0)) (sym long)
+    ∙ over-snoc l to (part l from i) (getD l (from + i) 0)
+    ∙ ap (over l to) (sym (part-snoc l from i (omega arith)))
 
 pub equal-step : (ok : Bool) (xs ys : List ℕ) (i : ℕ) → i < length xs → i < length ys
     → (ok && eqb (getD xs i 0) (getD ys i 0)) && equal (drop (i + 1) xs) (drop (i + 1) ys) ≡ ok && equal (drop i xs) (drop i ys)

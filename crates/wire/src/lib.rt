@@ -2,7 +2,7 @@
 ghost use mathlib.Core.Path.{_≡_};
 ghost use Prim.Native.Nat.{_+_, _≤_, _<_};
 ghost use lib.ListN.{length, replicate};
-ghost use Rattle.wire.specs.Bytes.{get16 as number16, get32 as number32, bytes16 as digits16, bytes32 as digits32, over, equal as same, blank};
+ghost use Rattle.wire.specs.Bytes.{get16 as number16, get32 as number32, bytes16 as digits16, bytes32 as digits32, part, over, equal as same, blank};
 
 fn wide16(x: u8) -> usize
     ensures { λ r. ⌜ (r ≡ x) × (r < 256) ⌝ }
@@ -70,6 +70,42 @@ pub fn copy(dst: &mut [u8], at: usize, src: &[u8])
 {
     let end = at + src.len();
     bytes::copy(src, &mut dst[at..end]);
+}
+
+// Copies n bytes to a place behind theirs, from the last one down, so that each is read before it is written over.
+fn copy_up(s: &mut [u8], from: usize, to: usize, n: usize)
+    requires { ⌜ (from < to) × (to + n ≤ length (now s)) ⌝ }
+    ensures { λ _. ⌜ now (s .exit) ≡ over (now (s .entry)) to (part (now (s .entry)) from n) ⌝ }
+{
+    let mut i = n;
+    while 0 < i {
+        i -= 1;
+        s[to + i] = s[from + i];
+    }
+}
+
+// Copies n bytes to a place before theirs, from the first one up.
+fn copy_down(s: &mut [u8], from: usize, to: usize, n: usize)
+    requires { ⌜ (to ≤ from) × (from + n ≤ length (now s)) ⌝ }
+    ensures { λ _. ⌜ now (s .exit) ≡ over (now (s .entry)) to (part (now (s .entry)) from n) ⌝ }
+{
+    let mut i = 0;
+    while i < n {
+        s[to + i] = s[from + i];
+        i += 1;
+    }
+}
+
+// Copies n bytes from one offset to another; the two runs may overlap.
+pub fn copy_within(s: &mut [u8], from: usize, to: usize, n: usize)
+    requires { ⌜ (from + n ≤ length (now s)) × (to + n ≤ length (now s)) ⌝ }
+    ensures { λ _. ⌜ now (s .exit) ≡ over (now (s .entry)) to (part (now (s .entry)) from n) ⌝ }
+{
+    if from < to {
+        copy_up(s, from, to, n);
+    } else {
+        copy_down(s, from, to, n);
+    }
 }
 
 // Sets n bytes from an offset on to b.

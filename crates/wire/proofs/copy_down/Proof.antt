@@ -1,29 +1,30 @@
+use mathlib.Core.Path.{_≡_, refl}
 use native.Mathlib.Omega.{arith}
-use mathlib.Core.Path.{_≡_, refl, _∙_}
-use Prim.Native.Nat.{_+_, _-_, _≤_}
+use Prim.Native.Nat.{_-_, _≤_}
 use lib.ListN.{length, length-set}
-use Rattle.records.specs.Moves.{downTo, down-start, down-turn, down-end}
+use Rattle.wire.specs.Bytes.{part, over}
+use Rattle.wire.specs.BytesLaws.{part-none, over-nil, copy-down}
 use borrow.Author.Needs.{needs}
-use Rattle.records.proofs.move_down.Statement.{statement}
-use Rattle.records.proofs.move_down.Tie as tie
+use Rattle.wire.proofs.copy_down.Statement.{statement}
+use Rattle.wire.proofs.copy_down.Tie as tie
 
 abbrev Inv-loop : tie.InvT-loop
-Inv-loop s₀ at i₀ s i = (at ≤ i) × (i + 8 ≤ length s₀) × (s ≡ downTo s₀ at (i - at)) × (length s ≡ length s₀)
+Inv-loop s₀ from to n i₀ s i = (i ≤ n) × (s ≡ over s₀ to (part s₀ from i)) × (length s ≡ length s₀)
 
 abbrev μ-loop : tie.MeasureT-loop
-μ-loop s₀ at i₀ s i = length s₀ - i
+μ-loop s₀ from to n i₀ s i = n - i
 
 loop-holds : tie.Need-loop-holds Inv-loop μ-loop
-loop-holds c = (omega arith, omega arith, down-start _ _, refl)
-
-add-loop : tie.Need-add-loop Inv-loop μ-loop
-add-loop c = search needs
+loop-holds c = (omega arith, rw (part-none, over-nil), refl)
 
 add-s : tie.Need-add-s Inv-loop μ-loop
 add-s c = search needs
 
 slice-read-s : tie.Need-slice-read-s Inv-loop μ-loop
 slice-read-s c = search needs
+
+add-s-2 : tie.Need-add-s-2 Inv-loop μ-loop
+add-s-2 c = search needs
 
 slice-write-s : tie.Need-slice-write-s Inv-loop μ-loop
 slice-write-s c = search needs
@@ -37,7 +38,8 @@ loop-less c = search needs
 loop-again : tie.Need-loop-again Inv-loop μ-loop
 loop-again c =
     let l = c .before .before .loop in
-    (omega arith, omega arith, rw (l .inv .2) (down-turn (c .before .before .before .args .s .now) (c .before .before .before .args .at) (l .i) (omega arith) (omega arith)), simp length-set (omega arith))
+    let a = c .before .before .before .args in
+    (omega arith, rw (l .inv .1) (copy-down (a .s .now) (a .from) (a .to) (a .n) (l .i) (omega arith) (omega arith) (omega arith)), simp length-set (omega arith))
 
 same-length : tie.Need-same-length Inv-loop μ-loop
 same-length c = search needs
@@ -45,18 +47,19 @@ same-length c = search needs
 returns : tie.Need-returns Inv-loop μ-loop
 returns c =
     let l = c .before .loop in
-    l .inv .2 ∙ down-end _ _ (l .i) (omega arith) (omega arith) (omega arith)
+    let e : l .i ≡ c .before .before .args .n = omega arith in
+    rw (← e) (l .inv .1)
 
-pub move-down-spec : {M : Type 1} → statement M
-move-down-spec =
+pub copy-down-spec : {M : Type 1} → statement M
+copy-down-spec =
     tie.close
     (tie.spec
     Inv-loop
     μ-loop
     loop-holds
-    add-loop
     add-s
     slice-read-s
+    add-s-2
     slice-write-s
     add-i
     loop-less
