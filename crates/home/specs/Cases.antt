@@ -1,0 +1,28 @@
+-- Case splits on tests inside a statement, and what holds of an answer if there is one.
+use mathlib.Core.Path.{_≡_, refl}
+use mathlib.Core.Bool.{Bool, true, false}
+use mathlib.Core.Option.{Option, none, some, Option·map}
+use mathlib.Core.List.{List, _∷_}
+use Rattle.wire.specs.Bytes.{pick}
+
+-- a choice by a test, both ways known
+pub by-pick : {X : Type 0} (P : X → Type 0) (t : Bool) {x y : X} → (t ≡ true → P x) → (t ≡ false → P y) → P (pick t x y)
+by-pick P true f g = f refl
+by-pick P false f g = g refl
+
+-- P of the answer, if there is one
+abbrev pub Holds : {A : Type 0} → (A → Type 0) → Option A → Type 0
+Holds P none = Unit {0}
+Holds P (some x) = P x
+
+pub holds-map : {A : Type 0} (P Q : List A → Type 0) (z : A) → ((zs : List A) → P zs → Q (z ∷ zs)) → (o : Option (List A)) → Holds P o
+    → Holds Q (Option·map (λ (r : List A). z ∷ r) o)
+holds-map P Q z h none p = tt
+holds-map P Q z h (some zs) p = h zs p
+
+pub holds-some : {A : Type 0} (P : A → Type 0) (o : Option A) (x : A) → o ≡ some x → Holds P o → P x
+holds-some P o x q h = rw q at h
+
+pub holds-both : {A : Type 0} (P Q R : A → Type 0) (o : Option A) → ((x : A) → P x → Q x → R x) → Holds P o → Holds Q o → Holds R o
+holds-both P Q R none f p q = tt
+holds-both P Q R (some x) f p q = f x p q

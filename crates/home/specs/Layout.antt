@@ -1,0 +1,27 @@
+-- The layout with document 01's capacities: moves and validity with the table put in.
+use mathlib.Core.Bool.{Bool}
+use mathlib.Core.Option.{Option}
+use mathlib.Core.List.{List}
+use Prim.Native.Nat.{ℕ}
+use Rattle.records.specs.declared.Record.{Record}
+use Rattle.home.specs.Capacities.{cells, classOf}
+use Rattle.home.specs.Zones.{Block, Zone, change as changeBy}
+use Rattle.home.specs.Valid.{Sits as SitsBy, Laid as LaidBy, Fit as FitBy, Valid as ValidBy, valid as validBy}
+
+abbrev pub Sits : ℕ → Block → Type 0
+Sits c b = SitsBy cells classOf c b
+
+abbrev pub Laid : ℕ → ℕ → ℕ → List Zone → Type 0
+Laid area c e zs = LaidBy cells classOf area c e zs
+
+abbrev pub Fit : ℕ → ℕ → ℕ → List Zone → Type 0
+Fit area c e zs = FitBy cells classOf area c e zs
+
+abbrev pub Valid : ℕ → List Zone → Type 0
+Valid area zs = ValidBy cells classOf area zs
+
+abbrev pub valid : ℕ → List Zone → Bool
+valid area zs = validBy cells classOf area zs
+
+abbrev pub change : ℕ → ℕ → List Record → List Zone → Option (List Zone)
+change area t rs zs = changeBy cells classOf area t rs zs

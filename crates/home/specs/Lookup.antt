@@ -1,0 +1,30 @@
+-- Where a tag stands in the dictionary.
+use mathlib.Core.Bool.{Bool, false, _||_}
+use mathlib.Core.List.{List}
+use Prim.Native.Nat.{ℕ, zero, suc, _≤_, _<_}
+use lib.Dec.{ltb, eqb}
+use lib.ListN.{length}
+use Rattle.wire.specs.Bytes.{pick, get16}
+use Rattle.home.specs.declared.lookup.Slot.{Slot}
+use Rattle.home.specs.declared.lookup.Slot.the-variants.{At, Absent}
+use Rattle.home.specs.Checks.{tagAt}
+
+-- "up to 256 entries .., strictly rising by tag": a dictionary in which a tag can be found
+pub record Ordered (h : List ℕ) : Type 0 where
+  pub few : get16 h 0 ≤ 256
+  pub long : 1664 ≤ length h
+  pub rise : (i j : ℕ) → i < j → j < get16 h 0 → tagAt h i < tagAt h j
+
+-- has one of the n entries from the i-th on this tag
+unfoldable pub entered : List ℕ → ℕ → ℕ → ℕ → Bool
+entered h t i zero = false
+entered h t i (suc n) = eqb (tagAt h i) t || entered h t (suc i) n
+
+-- how many of them stand before it: those at the front of a rising dictionary
+unfoldable pub rankAt : List ℕ → ℕ → ℕ → ℕ → ℕ
+rankAt h t i zero = 0
+rankAt h t i (suc n) = pick (ltb (tagAt h i) t) (suc (rankAt h t (suc i) n)) 0
+
+-- whether a tag is there, and its rank
+unfoldable pub slotOf : List ℕ → ℕ → Slot
+slotOf h t = pick (entered h t 0 (get16 h 0)) (At (rankAt h t 0 (get16 h 0))) (Absent (rankAt h t 0 (get16 h 0)))
