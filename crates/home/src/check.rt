@@ -205,8 +205,8 @@ fn tags_fine(home: &[u8], area: usize, n: usize) -> bool
     true
 }
 
-// The length.
-fn sized(home: &[u8]) -> bool
+// Whether the length is 64(26 + R), R from 1 to 1,024.
+pub fn sized(home: &[u8]) -> bool
     ensures { λ r. ⌜ r ≡ sizedOf (now (home .entry)) ⌝ }
 {
     let n = home.len();

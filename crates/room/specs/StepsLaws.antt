@@ -1,14 +1,14 @@
 -- One turn of each pass, its end, and the passes put together.
 use mathlib.Core.Path.{_≡_, refl, sym, ap, ap₂, _∙_}
 use mathlib.Core.Bool.{Bool, true, false}
-use mathlib.Core.List.{List, [], _∷_, map}
+use mathlib.Core.List.{List, [], _∷_}
 use Prim.Native.Nat.{ℕ, zero, suc, _+_, _*_, _-_, _%_, _≤_, _<_}
 use native.Mathlib.Omega.{arith}
 use native.Mathlib.Nat.{zero-add, mul-le-mul-left, mul-le-mul-right, mod-lt}
 use lib.Dec.{leb}
 use lib.ListN.{length, drop, getD, set}
 use borrow.Author.Tests.{leb-true, leb-false}
-use Rattle.home.specs.Capacities.{capacities, cells}
+use Rattle.home.specs.Capacities.{cells}
 use Rattle.home.specs.Zones.{zone}
 use Rattle.home.specs.Bytes.{firstAt, manyAt, zoneAt, blocksAt, zonesFrom, decode}
 use Rattle.home.specs.Cases.{by-pick}
@@ -290,12 +290,6 @@ pub first-some : (f n : ℕ) → 0 < n → firstIf f n ≡ f
 unfolding firstIf
 first-some f zero h = absurd (omega arith)
 first-some f (suc n) h = refl
-
--- ---- block sizes as a table: "A block's size is its capacity + 1 cells"
-
-unfoldable pub sizes : List ℕ
-unfolding capacities
-sizes = map suc capacities
 
 -- ---- a turn as the code makes it: size, first cell and count are those of class c
 

@@ -1,0 +1,24 @@
+-- What a call meets before it does anything: the refusals that whoever lends the bytes can cause.
+use Prim.Native.Nat.{ℕ}
+use mathlib.Core.List.{List}
+use Rattle.wire.specs.Bytes.{pick}
+use Rattle.log.specs.declared.Head.{Head}
+use Rattle.log.specs.declared.Head.the-variants.{Bad, Clear, Committed}
+use Rattle.log.specs.Image.{home, headOf}
+use Rattle.home.specs.Sound.{sized, sound}
+use Rattle.index.specs.declared.Gate.{Gate}
+use Rattle.index.specs.declared.Gate.the-variants.{Open, Shut}
+
+-- "3: mark 165, in any image call but recover and format"
+unfoldable pub byHead : Head → Gate → Gate
+byHead (Bad r) g = Shut r
+byHead Clear g = g
+byHead Committed g = Shut 3
+
+-- an image lent to begin, commit or a read: 1, 2, 3, then "5: home not sound"
+unfoldable pub imageGate : List ℕ → Gate
+imageGate l = byHead (headOf l) (pick (sound (home l)) Open (Shut 5))
+
+-- a workspace lent alone: "6: .. is no 64(26 + R)", "7: workspace not sound"
+unfoldable pub spaceGate : List ℕ → Gate
+spaceGate w = pick (sized w) (pick (sound w) Open (Shut 7)) (Shut 6)

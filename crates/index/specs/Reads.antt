@@ -1,0 +1,54 @@
+-- The reads of one list, and begin.
+use Prim.Native.Nat.{ℕ}
+use mathlib.Core.List.{List, []}
+use lib.ListN.{length}
+use lib.Dec.{eqb}
+use Rattle.wire.specs.Bytes.{pick}
+use Rattle.records.specs.Records.{encode}
+use Rattle.log.specs.Image.{home}
+use Rattle.home.specs.Sound.{listOf}
+use Rattle.index.specs.declared.Gate.{Gate}
+use Rattle.index.specs.declared.Gate.the-variants.{Open, Shut}
+use Rattle.index.specs.declared.Answer.{Answer}
+use Rattle.index.specs.declared.Answer.the-variants.{Count, Refused}
+use Rattle.index.specs.declared.Begun.{Begun}
+use Rattle.index.specs.declared.Begun.the-variants.{Done, Unbegun}
+use Rattle.index.specs.Gates.{imageGate, spaceGate}
+
+-- a number of records, or the refusal's number
+unfoldable pub counted : Gate → ℕ → Answer
+counted Open n = Count n
+counted (Shut r) n = Refused r
+
+-- the bytes shown: "empty for an unknown tag and on refusal"
+unfoldable pub shown : Gate → List ℕ → List ℕ
+shown Open bs = bs
+shown (Shut r) bs = []
+
+-- "Count a list (an unknown tag has 0), and show it .. Every read .. takes an image or a workspace"
+unfoldable pub countImage : List ℕ → ℕ → Answer
+countImage l t = counted (imageGate l) (length (listOf (home l) t))
+
+unfoldable pub countSpace : List ℕ → ℕ → Answer
+countSpace w t = counted (spaceGate w) (length (listOf w t))
+
+unfoldable pub showImage : List ℕ → ℕ → List ℕ
+showImage l t = shown (imageGate l) (encode (listOf (home l) t))
+
+unfoldable pub showSpace : List ℕ → ℕ → List ℕ
+showSpace w t = shown (spaceGate w) (encode (listOf w t))
+
+-- "Begin: copies home to a workspace of the same length": 1, 2, 3, 5, then 6; it doesn't look at the workspace's old bytes
+unfoldable pub begun : Gate → List ℕ → List ℕ → Begun
+begun Open h w = pick (eqb (length w) (length h)) Done (Unbegun 6)
+begun (Shut r) h w = Unbegun r
+
+unfoldable pub spaceAfter : Gate → List ℕ → List ℕ → List ℕ
+spaceAfter Open h w = pick (eqb (length w) (length h)) h w
+spaceAfter (Shut r) h w = w
+
+unfoldable pub beginAnswer : List ℕ → List ℕ → Begun
+beginAnswer l w = begun (imageGate l) (home l) w
+
+unfoldable pub beginSpace : List ℕ → List ℕ → List ℕ
+beginSpace l w = spaceAfter (imageGate l) (home l) w

@@ -1,0 +1,169 @@
+// The call index: the calls on an image and on a workspace.
+use log::Head;
+use log::Outcome;
+ghost use mathlib.Core.Path.{_≡_};
+ghost use lib.ListN.{length};
+ghost use lib.Dec.{eqb};
+ghost use Rattle.log.specs.Image.{home as homeOf};
+ghost use Rattle.log.specs.Calls.{answer, after, formatPlan, recoverPlan, commitPlan};
+ghost use Rattle.home.specs.Sound.{sound as isSound};
+ghost use Rattle.index.specs.Gates.{imageGate, spaceGate};
+ghost use Rattle.index.specs.Reads.{countImage, countSpace, showImage, showSpace, beginAnswer, beginSpace};
+
+// A number of records, or refused with a number.
+pub enum Answer {
+    Count(usize),
+    Refused(u8),
+}
+
+// What begin answers.
+pub enum Begun {
+    Done,
+    Unbegun(u8),
+}
+
+// Whether lent bytes let a call go on, or the refusal that they cause.
+pub enum Gate {
+    Open,
+    Shut(u8),
+}
+
+fn image_gate(image: &[u8]) -> Gate
+    ensures { λ r. ⌜ r ≡ imageGate (now (image .entry)) ⌝ }
+{
+    let head = log::read_head(image);
+    match head {
+        Head::Bad(r) => Gate::Shut(r),
+        Head::Clear => {
+            if home::check::sound(log::home(image)) {
+                Gate::Open
+            } else {
+                Gate::Shut(5)
+            }
+        }
+        Head::Committed => Gate::Shut(3),
+    }
+}
+
+fn space_gate(space: &[u8]) -> Gate
+    ensures { λ r. ⌜ r ≡ spaceGate (now (space .entry)) ⌝ }
+{
+    if !home::check::sized(space) {
+        return Gate::Shut(6);
+    }
+    if home::check::sound(space) {
+        Gate::Open
+    } else {
+        Gate::Shut(7)
+    }
+}
+
+// Counts a tag's list in an image.
+pub fn count_image(image: &[u8], tag: u32) -> Answer
+    ensures { λ r. ⌜ r ≡ countImage (now (image .entry)) tag ⌝ }
+{
+    match image_gate(image) {
+        Gate::Open => Answer::Count(home::lookup::count(log::home(image), tag)),
+        Gate::Shut(r) => Answer::Refused(r),
+    }
+}
+
+// Counts a tag's list in a workspace.
+pub fn count_space(space: &[u8], tag: u32) -> Answer
+    ensures { λ r. ⌜ r ≡ countSpace (now (space .entry)) tag ⌝ }
+{
+    match space_gate(space) {
+        Gate::Open => Answer::Count(home::lookup::count(space, tag)),
+        Gate::Shut(r) => Answer::Refused(r),
+    }
+}
+
+// The part of an image that holds a tag's records.
+pub fn show_image(image: &[u8], tag: u32) -> &[u8]
+    ensures { λ r. ⌜ now r ≡ showImage (now (image .entry)) tag ⌝ }
+{
+    match image_gate(image) {
+        Gate::Open => home::lookup::list(log::home(image), tag),
+        Gate::Shut(_) => &image[0..0],
+    }
+}
+
+// The part of a workspace that holds a tag's records.
+pub fn show_space(space: &[u8], tag: u32) -> &[u8]
+    ensures { λ r. ⌜ now r ≡ showSpace (now (space .entry)) tag ⌝ }
+{
+    match space_gate(space) {
+        Gate::Open => home::lookup::list(space, tag),
+        Gate::Shut(_) => &space[0..0],
+    }
+}
+
+// Copies an image's home to a workspace.
+pub fn begin(image: &[u8], space: &mut [u8]) -> Begun
+    ensures { λ r. ⌜ r ≡ beginAnswer (now (image .entry)) (now (space .entry)) ⌝ }
+    ensures { λ _. ⌜ now (space .exit) ≡ beginSpace (now (image .entry)) (now (space .entry)) ⌝ }
+{
+    match image_gate(image) {
+        Gate::Open => {
+            let home = log::home(image);
+            if space.len() == home.len() {
+                wire::copy(space, 0, home);
+                Begun::Done
+            } else {
+                Begun::Unbegun(6)
+            }
+        }
+        Gate::Shut(r) => Begun::Unbegun(r),
+    }
+}
+
+// Whether a workspace is as long as the image's home.
+fn as_long(image: &[u8], space: &[u8]) -> bool
+    requires { ⌜ imageGate (now image) ≡ Gate.Open ⌝ }
+    ensures { λ r. ⌜ r ≡ eqb (length (now (space .entry))) (length (homeOf (now (image .entry)))) ⌝ }
+{
+    space.len() == log::home(image).len()
+}
+
+// With a right head, mark 0 and a sound home: 6, 7, or the log's commit.
+fn commit_open(image: &mut [u8], space: &[u8], n: usize) -> Outcome
+    requires { ⌜ imageGate (now image) ≡ Gate.Open ⌝ }
+    ensures { λ r. ⌜ r ≡ answer (commitPlan isSound (now (image .entry)) (now (space .entry))) n ⌝ }
+    ensures { λ _. ⌜ now (image .exit) ≡ after (commitPlan isSound (now (image .entry)) (now (space .entry))) n (now (image .entry)) ⌝ }
+{
+    if !as_long(image, space) {
+        return Outcome::Refused(6);
+    }
+    if home::check::sound(space) {
+        log::commit(image, space, n)
+    } else {
+        Outcome::Refused(7)
+    }
+}
+
+// Makes a workspace the image's home, through the log, with an allowance of stores.
+pub fn commit(image: &mut [u8], space: &[u8], n: usize) -> Outcome
+    ensures { λ r. ⌜ r ≡ answer (commitPlan isSound (now (image .entry)) (now (space .entry))) n ⌝ }
+    ensures { λ _. ⌜ now (image .exit) ≡ after (commitPlan isSound (now (image .entry)) (now (space .entry))) n (now (image .entry)) ⌝ }
+{
+    match image_gate(image) {
+        Gate::Open => commit_open(image, space, n),
+        Gate::Shut(r) => Outcome::Refused(r),
+    }
+}
+
+// Finishes a commit that was cut after its mark was stored.
+pub fn recover(image: &mut [u8], n: usize) -> Outcome
+    ensures { λ r. ⌜ r ≡ answer (recoverPlan (now (image .entry))) n ⌝ }
+    ensures { λ _. ⌜ now (image .exit) ≡ after (recoverPlan (now (image .entry))) n (now (image .entry)) ⌝ }
+{
+    log::recover(image, n)
+}
+
+// Leaves an empty index with room for L log entries and R record pages.
+pub fn format(image: &mut [u8], capacity: usize, pages: usize, n: usize) -> Outcome
+    ensures { λ r. ⌜ r ≡ answer (formatPlan (now (image .entry)) capacity pages) n ⌝ }
+    ensures { λ _. ⌜ now (image .exit) ≡ after (formatPlan (now (image .entry)) capacity pages) n (now (image .entry)) ⌝ }
+{
+    log::format(image, capacity, pages, n)
+}
