@@ -49,7 +49,7 @@ get32-at l x at e = ap (get32 l) (sym (add-zero at)) ∙ sym (get32-drop l at 0)
 
 -- ---- a block
 
-all-mem : (rs : List Record) → All Fits rs → (r : Record) → List·Memᴰ r rs → Fits r
+pub all-mem : (rs : List Record) → All Fits rs → (r : Record) → List·Memᴰ r rs → Fits r
 all-mem (x ∷ xs) (more f h) r (List·Memᴰ·head q) = rw q f
 all-mem (x ∷ xs) (more f h) r (List·Memᴰ·tail m) = all-mem xs h r m
 

@@ -1,13 +1,17 @@
 // The call index: the calls on an image and on a workspace.
 use log::Head;
 use log::Outcome;
+use records::Merge;
 ghost use mathlib.Core.Path.{_≡_};
+ghost use Prim.Native.Nat.{_%_};
 ghost use lib.ListN.{length};
 ghost use lib.Dec.{eqb};
 ghost use Rattle.log.specs.Image.{home as homeOf};
 ghost use Rattle.log.specs.Calls.{answer, after, formatPlan, recoverPlan, commitPlan};
 ghost use Rattle.home.specs.Sound.{sound as isSound};
 ghost use Rattle.index.specs.Gates.{imageGate, spaceGate};
+ghost use Rattle.records.specs.Records.{merge as merged, decode};
+ghost use Rattle.index.specs.Merges.{fitted, filled, mergeImage, outImage, mergeSpace, outSpace};
 ghost use Rattle.index.specs.Reads.{countImage, countSpace, showImage, showSpace, beginAnswer, beginSpace};
 
 // A number of records, or refused with a number.
@@ -166,4 +170,48 @@ pub fn format(image: &mut [u8], capacity: usize, pages: usize, n: usize) -> Outc
     ensures { λ _. ⌜ now (image .exit) ≡ after (formatPlan (now (image .entry)) capacity pages) n (now (image .entry)) ⌝ }
 {
     log::format(image, capacity, pages, n)
+}
+
+// A merge of two lists to an output, if it has room for it.
+fn merge_lists(m: Merge, xs: &[u8], ys: &[u8], out: &mut [u8]) -> Answer
+    requires { ⌜ (length (now xs) % 8 ≡ 0) × (length (now ys) % 8 ≡ 0) ⌝ }
+    ensures { λ r. ⌜ r ≡ fitted (merged m (decode (now (xs .entry))) (decode (now (ys .entry)))) (now (out .entry)) ⌝ }
+    ensures { λ _. ⌜ now (out .exit) ≡ filled (merged m (decode (now (xs .entry))) (decode (now (ys .entry)))) (now (out .entry)) ⌝ }
+{
+    let k = records::merge_count(m, xs, ys);
+    if out.len() / 8 < k {
+        return Answer::Refused(15);
+    }
+    Answer::Count(records::merge_into(m, xs, ys, out))
+}
+
+// Writes both, either or first-without-second of two tags' lists in an image to an output.
+pub fn merge_image(image: &[u8], m: Merge, first: u32, second: u32, out: &mut [u8]) -> Answer
+    ensures { λ r. ⌜ r ≡ mergeImage m (now (image .entry)) first second (now (out .entry)) ⌝ }
+    ensures { λ _. ⌜ now (out .exit) ≡ outImage m (now (image .entry)) first second (now (out .entry)) ⌝ }
+{
+    match image_gate(image) {
+        Gate::Open => {
+            let home = log::home(image);
+            let xs = home::lookup::list(home, first);
+            let ys = home::lookup::list(home, second);
+            merge_lists(m, xs, ys, out)
+        }
+        Gate::Shut(r) => Answer::Refused(r),
+    }
+}
+
+// The same of two lists in a workspace.
+pub fn merge_space(space: &[u8], m: Merge, first: u32, second: u32, out: &mut [u8]) -> Answer
+    ensures { λ r. ⌜ r ≡ mergeSpace m (now (space .entry)) first second (now (out .entry)) ⌝ }
+    ensures { λ _. ⌜ now (out .exit) ≡ outSpace m (now (space .entry)) first second (now (out .entry)) ⌝ }
+{
+    match space_gate(space) {
+        Gate::Open => {
+            let xs = home::lookup::list(space, first);
+            let ys = home::lookup::list(space, second);
+            merge_lists(m, xs, ys, out)
+        }
+        Gate::Shut(r) => Answer::Refused(r),
+    }
 }
