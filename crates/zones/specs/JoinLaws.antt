@@ -1,0 +1,110 @@
+-- Home's bytes as its five parts, and bytes written in one of them.
+use mathlib.Core.Path.{_≡_, refl, sym, ap, _∙_}
+use mathlib.Core.List.{List, [], _∷_, _++_, append-assoc}
+use Prim.Native.Nat.{ℕ, zero, suc, _+_, _≤_, _<_}
+use native.Mathlib.Omega.{arith}
+use native.Mathlib.Nat.{add-zero}
+use lib.ListN.{length, drop, replicate, length-append}
+use lib.Seq.{drop-at}
+use Rattle.wire.specs.Bytes.{part, over, get16, get32, bytes16}
+use Rattle.wire.specs.BytesLaws.{over-nil, over-whole, part-drop, length-bytes16}
+use Rattle.home.specs.BytesLaws.{get16-front, get32-drop}
+
+-- ---- bytes written in one of two runs
+
+over-behind : (p q : List ℕ) (i k : ℕ) (bs : List ℕ) → length p ≡ i → over (p ++ q) (i + k) bs ≡ p ++ over q k bs
+unfolding over
+over-behind [] q i k bs e = let a : i + k ≡ k = omega arith in rw a
+over-behind (x ∷ p) q zero k bs e = absurd (omega arith)
+over-behind (x ∷ p) q (suc i) k bs e = let a : suc i + k ≡ suc (i + k) = omega arith in rw a (ap (_∷_ x) (over-behind p q i k bs (omega arith)))
+
+over-ahead : (p q : List ℕ) (k : ℕ) (bs : List ℕ) → k + length bs ≤ length p → over (p ++ q) k bs ≡ over p k bs ++ q
+unfolding over
+over-ahead [] q k [] g = over-nil q k
+over-ahead [] q k (b ∷ bs) g = absurd (omega arith)
+over-ahead (x ∷ p) q zero [] g = refl
+over-ahead (x ∷ p) q zero (b ∷ bs) g = ap (_∷_ b) (over-ahead p q zero bs (omega arith))
+over-ahead (x ∷ p) q (suc k) bs g = ap (_∷_ x) (over-ahead p q k bs (omega arith))
+
+part-behind : (p q : List ℕ) (i k n : ℕ) → length p ≡ i → part (p ++ q) (i + k) n ≡ part q k n
+part-behind p q i k n e = sym (part-drop (p ++ q) i k n) ∙ ap (λ (x : List ℕ). part x k n) (drop-at p q i e)
+
+part-ahead : (p q : List ℕ) (k n : ℕ) → k + n ≤ length p → part (p ++ q) k n ≡ part p k n
+unfolding part
+part-ahead p q k zero g = refl
+part-ahead [] q k (suc n) g = absurd (omega arith)
+part-ahead (x ∷ p) q zero (suc n) g = ap (_∷_ x) (part-ahead p q zero n (omega arith))
+part-ahead (x ∷ p) q (suc k) (suc n) g = part-ahead p q k (suc n) (omega arith)
+
+-- a run replaced by another of its length
+pub over-seam : (p q r v : List ℕ) (i : ℕ) → length p ≡ i → length q ≡ length v → over (p ++ (q ++ r)) i v ≡ p ++ (v ++ r)
+over-seam p q r v i a b =
+    ap (λ (k : ℕ). over (p ++ (q ++ r)) k v) (sym (add-zero i)) ∙ over-behind p (q ++ r) i 0 v a
+    ∙ ap (λ (x : List ℕ). p ++ x) (over-ahead q r 0 v (omega arith) ∙ ap (λ (x : List ℕ). x ++ r) (over-whole q v (sym b)))
+
+-- ---- the five parts: tag count, zone entries, six zeros, dictionary, area
+
+unfoldable pub join : ℕ → List ℕ → List ℕ → List ℕ → List ℕ
+join n es ds a = bytes16 n ++ (es ++ (replicate 6 0 ++ (ds ++ a)))
+
+module _ (n : ℕ) (es ds a : List ℕ) (le : length es ≡ 120) (ld : length ds ≡ 1536) where
+  -- all before the dictionary, and all before the area
+  lead : List ℕ
+  lead = bytes16 n ++ (es ++ replicate 6 0)
+
+  lead2 : List ℕ
+  lead2 = bytes16 n ++ (es ++ (replicate 6 0 ++ ds))
+
+  length-lead : length lead ≡ 128
+  unfolding lead
+  length-lead = simp length-append (omega (arith, length-bytes16 n))
+
+  length-lead2 : length lead2 ≡ 1664
+  unfolding lead2
+  length-lead2 = simp length-append (omega (arith, length-bytes16 n))
+
+  split : join n es ds a ≡ lead ++ (ds ++ a)
+  unfolding join lead
+  split = simp append-assoc
+
+  split2 : join n es ds a ≡ lead2 ++ a
+  unfolding join lead2
+  split2 = simp append-assoc
+
+  pub join-dictionary : drop 128 (join n es ds a) ≡ ds ++ a
+  join-dictionary = ap (drop 128) split ∙ drop-at lead (ds ++ a) 128 length-lead
+
+  pub join-area : (k : ℕ) (bs : List ℕ) → over (join n es ds a) (1664 + k) bs ≡ join n es ds (over a k bs)
+  unfolding join lead2
+  join-area k bs = ap (λ (x : List ℕ). over x (1664 + k) bs) split2 ∙ over-behind lead2 a 1664 k bs length-lead2 ∙ simp append-assoc
+
+  pub join-entry : (k : ℕ) (bs : List ℕ) → k + length bs ≤ 1536 → over (join n es ds a) (128 + k) bs ≡ join n es (over ds k bs) a
+  unfolding join lead
+  join-entry k bs g = ap (λ (x : List ℕ). over x (128 + k) bs) split ∙ over-behind lead (ds ++ a) 128 k bs length-lead
+      ∙ ap (λ (x : List ℕ). lead ++ x) (over-ahead ds a k bs (omega arith)) ∙ simp append-assoc
+
+  pub join-zone : (k : ℕ) (bs : List ℕ) → k + length bs ≤ 120 → over (join n es ds a) (2 + k) bs ≡ join n (over es k bs) ds a
+  unfolding join
+  join-zone k bs g = over-behind (bytes16 n) (es ++ (replicate 6 0 ++ (ds ++ a))) 2 k bs (length-bytes16 n)
+      ∙ ap (λ (x : List ℕ). bytes16 n ++ x) (over-ahead es (replicate 6 0 ++ (ds ++ a)) k bs (omega arith))
+
+  pub join-count : (m : ℕ) → over (join n es ds a) 0 (bytes16 m) ≡ join m es ds a
+  unfolding join
+  join-count m = over-ahead (bytes16 n) (es ++ (replicate 6 0 ++ (ds ++ a))) 0 (bytes16 m) (omega (arith, length-bytes16 n, length-bytes16 m))
+      ∙ ap (λ (x : List ℕ). x ++ (es ++ (replicate 6 0 ++ (ds ++ a)))) (over-whole (bytes16 n) (bytes16 m) (length-bytes16 m ∙ sym (length-bytes16 n)))
+
+  pub join-part : (k m : ℕ) → part (join n es ds a) (1664 + k) m ≡ part a k m
+  join-part k m = ap (λ (x : List ℕ). part x (1664 + k) m) split2 ∙ part-behind lead2 a 1664 k m length-lead2
+
+  pub join-words : (k m : ℕ) → k + m ≤ 1536 → part (join n es ds a) (128 + k) m ≡ part ds k m
+  join-words k m g = ap (λ (x : List ℕ). part x (128 + k) m) split ∙ part-behind lead (ds ++ a) 128 k m length-lead ∙ part-ahead ds a k m (omega arith)
+
+  pub join-tags : n < 65536 → get16 (join n es ds a) 0 ≡ n
+  unfolding join
+  join-tags g = get16-front n (es ++ (replicate 6 0 ++ (ds ++ a))) g
+
+  pub join-bears : (k : ℕ) → get32 (join n es ds a) (1664 + k) ≡ get32 a k
+  join-bears k = sym (get32-drop (join n es ds a) 1664 k) ∙ ap (λ (x : List ℕ). get32 x k) (ap (drop 1664) split2 ∙ drop-at lead2 a 1664 length-lead2)
+
+  pub join-length : length (join n es ds a) ≡ 1664 + length a
+  join-length = ap length split2 ∙ length-append lead2 a ∙ ap (λ (k : ℕ). k + length a) length-lead2

@@ -1,0 +1,178 @@
+-- Layouts that are valid but for their gaps: their zones and entries read off the bytes, and zones exchanged.
+use mathlib.Core.Path.{_≡_, refl, sym, ap, _∙_, subst}
+use mathlib.Core.Logic.{inl, inr}
+use mathlib.Core.List.{List, [], _∷_, _++_, map, append-assoc}
+use Prim.Native.Nat.{ℕ, zero, suc, _+_, _*_, _≤_, _<_}
+use native.Mathlib.Omega.{arith}
+use lib.Dec.{leb}
+use lib.ListN.{length, getD, replicate, length-append}
+use borrow.Author.Tests.{leb-true, leb-false}
+use Rattle.wire.specs.Bytes.{get16, get32}
+use Rattle.wire.specs.Cases.{by-eq}
+use Rattle.wire.specs.All.{more, all-map}
+use Rattle.home.specs.Capacities.{cells}
+use Rattle.home.specs.CapacitiesLaws.{cells-mono}
+use Rattle.home.specs.Zones.{Block, Zone, empty, from, blocks, lifted, endOf, shift}
+use Rattle.home.specs.Perm.{Perm, pnil, pskip, ptrans, In, Pairs, after}
+use Rattle.home.specs.PermLaws.{prefl, psym, pleft, pright, protate, plength, pall, ppairs, all-in}
+use Rattle.home.specs.Valid.{Other}
+use Rattle.home.specs.Layout.{Sits, Fit}
+use Rattle.home.specs.Cases.{by-pick, Holds, holds-map}
+use Rattle.home.specs.PlaceLaws.{length-snoc}
+use Rattle.home.specs.Bytes.{Spot, spots, Entry, entryOf, sorted, dictionary, padded, entries, area, encode, cellAt, firstAt, manyAt}
+use Rattle.home.specs.Checks.{tagAt, placeAt, entriesAt}
+use Rattle.home.specs.AreaLaws.{length-area}
+use Rattle.home.specs.HomeLaws.{Entries, entries-read, encode-entries}
+use Rattle.home.specs.DictionaryLaws.{Below, dictionary-rising}
+use Rattle.zones.specs.Moves.{indexOf, rank, Rising}
+use Rattle.zones.specs.JoinLaws.{join-length}
+use Rattle.zones.specs.EntryLaws.{Parted, kept, sorted-one, rank-at}
+use Rattle.zones.specs.StateLaws.{state, ld, state-tags, state-entries, state-index, state-bears}
+use Rattle.zones.specs.StepLaws.{firstOf, manyOf}
+use Rattle.zones.specs.Room.{endAfter}
+use Rattle.zones.specs.HomeLaws.{Loose, length-zones, fine, encode-state, area-bears, others, dictionary-as}
+
+-- ---- zones' entries
+
+entry-at : (h : List ℕ) (i : ℕ) (zs : List Zone) (k : ℕ) → Entries h i zs → k < length zs → (firstAt h (i + k) ≡ firstOf (getD zs k empty)) × (manyAt h (i + k) ≡ manyOf (getD zs k empty))
+unfolding firstOf manyOf
+entry-at h i [] k d g = absurd (omega arith)
+entry-at h i (empty ∷ zs) zero d g = let e : i + 0 ≡ i = omega arith in rw e (d .0, d .1)
+entry-at h i (from f x xs ∷ zs) zero d g = let e : i + 0 ≡ i = omega arith in rw e (d .0, d .1)
+entry-at h i (empty ∷ zs) (suc k) d g = let e : i + suc k ≡ suc i + k = omega arith in rw e (entry-at h (suc i) zs k (d .2) (omega arith))
+entry-at h i (from f x xs ∷ zs) (suc k) d g = let e : i + suc k ≡ suc i + k = omega arith in rw e (entry-at h (suc i) zs k (d .2) (omega arith))
+
+-- ---- entries rise
+
+entry-in : (h : List ℕ) (i n j : ℕ) → i ≤ j → j < i + n → In (record { tag = tagAt h j; cell = placeAt h j }) (entriesAt h i n)
+unfolding entriesAt
+entry-in h i zero j lo hi = absurd (omega arith)
+entry-in h i (suc n) j lo hi = by-eq j i (λ e. inl (ap (λ (k : ℕ). record { tag = tagAt h k; cell = placeAt h k }) e)) (λ d. inr (entry-in h (suc i) n j (omega arith) (omega arith)))
+
+rising-at : (h : List ℕ) (i n a b : ℕ) → Pairs Below (entriesAt h i n) → i ≤ a → a < b → b < i + n → tagAt h a < tagAt h b
+unfolding entriesAt
+rising-at h i zero a b p lo m hi = absurd (omega arith)
+rising-at h i (suc n) a b (after x p) lo m hi =
+    by-eq a i
+    (λ e. subst (λ (k : ℕ). tagAt h k < tagAt h b) (sym e)
+    (all-in (Below (record { tag = tagAt h i; cell = placeAt h i })) (record { tag = tagAt h b; cell = placeAt h b }) (entriesAt h (suc i) n) x (entry-in h (suc i) n b (omega arith) (omega arith))))
+    (λ d. rising-at h (suc i) n a b p (omega arith) m (omega arith))
+
+-- a block at cell p in home's bytes that can be moved
+pub record Movable (h : List ℕ) (p : ℕ) : Type 0 where
+  pub few : get16 h 0 ≤ 256
+  pub found : indexOf h (get32 h (cellAt p)) < get16 h 0
+  pub rising : Rising h
+
+module _ (R : ℕ) (small : R ≤ 1024) (zs : List Zone) (v : Loose R zs) where
+  abbrev es : List ℕ
+  es = entries zs
+
+  abbrev a : List ℕ
+  a = area (8 * R) zs
+
+  abbrev ds : List Entry
+  ds = dictionary zs
+
+  pub length-loose : length (encode R zs) ≡ 1664 + 64 * R
+  length-loose = ap length (encode-state R small zs v)
+      ∙ join-length (length ds) es (padded ds) a (length-zones R small zs v) (ld es a (length-zones R small zs v) ds (fine R small zs v)) ∙ omega (arith, length-area (8 * R) zs)
+
+  pub entries-loose : Entries (encode R zs) 0 zs
+  entries-loose = entries-read (8 * R) 0 0 zs (encode R zs) (replicate 6 0 ++ (padded (dictionary zs) ++ area (8 * R) zs)) (omega arith) (v .fit) (encode-entries R zs)
+
+  pub zone-at : (c : ℕ) → c < 30 → (firstAt (encode R zs) c ≡ firstOf (getD zs c empty)) × (manyAt (encode R zs) c ≡ manyOf (getD zs c empty))
+  zone-at c g = let e : 0 + c ≡ c = omega arith in rw e at (entry-at (encode R zs) 0 zs c entries-loose (omega (arith, v .classes)))
+
+  pub movable : (s : Spot) (ss : List Spot) → Perm (spots 0 zs) (s ∷ ss) → Movable (encode R zs) (s .cell)
+  movable s ss p =
+      let le : length es ≡ 120 = length-zones R small zs v in
+      let ok = fine R small zs v in
+      let x : Entry = entryOf s in
+      let k : Parted (x .tag) (sorted (map entryOf ss)) = kept x (map entryOf ss) (others R small zs v (s ∷ ss) p) in
+      let d : ds ≡ k .pre ++ x ∷ k .post = dictionary-as R small zs v (s ∷ ss) p ∙ sorted-one x (map entryOf ss) k in
+      let same : x .tag ≤ x .tag = omega arith in
+      let i : indexOf (state es ds a) (get32 (state es ds a) (cellAt (s .cell))) ≡ length (k .pre) =
+      ap (indexOf (state es ds a)) (state-bears es a le ds ok (s .cell) ∙ area-bears R small zs v s ss p) ∙ state-index es a le ds ok (x .tag) ∙ ap (rank (x .tag)) d
+      ∙ rank-at (x .tag) (k .pre) (x ∷ k .post) (k .low) (more same (all-map {P = λ (y : Entry). x .tag < y .tag} {Q = λ (y : Entry). x .tag ≤ y .tag} (λ y b. omega arith) (k .high))) in
+      let n : length ds ≡ length (k .pre) + suc (length (k .post)) = ap length d ∙ length-append (k .pre) (x ∷ k .post) in
+      subst (λ (h : List ℕ). Movable h (s .cell)) (sym (encode-state R small zs v))
+      (record {
+        few = omega (arith, state-tags es a le ds ok, ok .few);
+        found = omega (arith, i, n, state-tags es a le ds ok);
+        rising = λ i j b c. rising-at (state es ds a) 0 (get16 (state es ds a) 0) i j (subst (Pairs Below) (sym (state-entries es a le ds ok)) (dictionary-rising zs (v .distinct))) (omega arith) b (omega arith);
+      })
+
+-- ---- higher zones exchanged
+
+pub fit-lower : (n c e e' : ℕ) (zs : List Zone) → e' ≤ e → Fit n c e zs → Fit n c e' zs
+fit-lower n c e e' [] g h = omega arith
+fit-lower n c e e' (empty ∷ zs) g h = fit-lower n (suc c) e e' zs g h
+fit-lower n c e e' (from f x xs ∷ zs) g h = (record { after = omega (arith, h .0 .after); sit = h .0 .sit }, h .1)
+
+pub fit-above : (n c e k : ℕ) (ls hs : List Zone) → k ≡ c + length ls → Fit n c e (ls ++ hs) → Fit n k (endAfter c e ls) hs
+unfolding endAfter
+fit-above n c e k [] hs q h = let p : c ≡ k = omega arith in subst (λ (d : ℕ). Fit n d e hs) p h
+fit-above n c e k (empty ∷ ls) hs q h = fit-above n (suc c) e k ls hs (omega arith) h
+fit-above n c e k (from f x xs ∷ ls) hs q h = fit-above n (suc c) (f + suc (length xs) * cells c) k ls hs (omega arith) (h .1)
+
+pub fit-joined : (n c e k : ℕ) (ls hs hs' : List Zone) → k ≡ c + length ls → Fit n c e (ls ++ hs) → Fit n k (endAfter c e ls) hs' → Fit n c e (ls ++ hs')
+unfolding endAfter
+fit-joined n c e k [] hs hs' q h h' = let p : k ≡ c = omega arith in subst (λ (d : ℕ). Fit n d e hs') p h'
+fit-joined n c e k (empty ∷ ls) hs hs' q h h' = fit-joined n (suc c) e k ls hs hs' (omega arith) h h'
+fit-joined n c e k (from f x xs ∷ ls) hs hs' q h h' = (h .0, fit-joined n (suc c) (f + suc (length xs) * cells c) k ls hs hs' (omega arith) (h .1) h')
+
+blocks-append : (ls hs : List Zone) → blocks (ls ++ hs) ≡ blocks ls ++ blocks hs
+unfolding blocks
+blocks-append [] hs = refl
+blocks-append (empty ∷ ls) hs = blocks-append ls hs
+blocks-append (from f x xs ∷ ls) hs = ap (λ (l : List Block). x ∷ (xs ++ l)) (blocks-append ls hs) ∙ sym (append-assoc (x ∷ xs) (blocks ls) (blocks hs))
+
+-- fitting zones with the same blocks instead
+pub loose-joined : (R : ℕ) (ls hs hs' : List Zone) → Loose R (ls ++ hs) → Fit (8 * R) (length ls) (endAfter 0 0 ls) hs' → Perm (blocks hs') (blocks hs) → length hs' ≡ length hs → Loose R (ls ++ hs')
+loose-joined R ls hs hs' v f p l =
+    let q : Perm (blocks (ls ++ hs)) (blocks (ls ++ hs')) = subst (λ (x : List Block). Perm x (blocks (ls ++ hs'))) (sym (blocks-append ls hs))
+    (subst (Perm (blocks ls ++ blocks hs)) (sym (blocks-append ls hs')) (pleft (blocks ls) (psym p))) in
+    record {
+      classes = omega (arith, v .classes, length-append ls hs, length-append ls hs');
+      fit = fit-joined (8 * R) 0 0 (length ls) ls hs hs' (omega arith) (v .fit) f;
+      distinct = ppairs Other (λ x y o e. o (sym e)) q (v .distinct);
+      few = omega (arith, v .few, plength q);
+    }
+
+-- ---- zones shifted
+
+-- zones that fit from e on, with the blocks of zs
+pub record Shifted (n c e : ℕ) (zs zs' : List Zone) : Type 0 where
+  pub fit : Fit n c e zs'
+  pub same : Perm (blocks zs') (blocks zs)
+  pub long : length zs' ≡ length zs
+
+pub shift-fit : (n c e₀ e : ℕ) (zs : List Zone) → Fit n c e₀ zs → e₀ ≤ e → e ≤ e₀ + cells c → Holds (Shifted n c e zs) (shift cells n c e zs)
+unfolding shift blocks endOf lifted
+shift-fit n c e₀ e [] h lo hi = by-pick (Holds (Shifted n c e [])) (leb e n) (λ t. record { fit = leb-true e n t; same = pnil; long = refl }) (λ t. tt)
+shift-fit n c e₀ e (empty ∷ zs) h lo hi =
+    holds-map (Shifted n (suc c) e zs) (Shifted n c e (empty ∷ zs)) empty (λ r m. record { fit = m .fit; same = m .same; long = ap suc (m .long) }) (shift cells n (suc c) e zs)
+    (shift-fit n (suc c) e₀ e zs h lo (omega (arith, cells-mono c)))
+shift-fit n c e₀ e (from f x [] ∷ zs) h lo hi =
+    by-pick (Holds (Shifted n c e (from f x [] ∷ zs))) (leb e f)
+    (λ t. record { fit = (record { after = leb-true e f t; sit = h .0 .sit }, h .1); same = prefl _; long = refl })
+    (λ t. let gt : f < e = leb-false e f t in
+    holds-map (Shifted n (suc c) (e + 1 * cells c) zs) (Shifted n c e (from f x [] ∷ zs)) (from e x [])
+    (λ r m. record { fit = (record { after = omega arith; sit = h .0 .sit }, m .fit); same = pskip x (m .same); long = ap suc (m .long) })
+    (shift cells n (suc c) (e + 1 * cells c) zs)
+    (shift-fit n (suc c) (f + 1 * cells c) (e + 1 * cells c) zs (h .1) (omega arith) (omega (arith, cells-mono c, h .0 .after))))
+shift-fit n c e₀ e (from f x (y ∷ ys) ∷ zs) h lo hi =
+    by-pick (Holds (Shifted n c e (from f x (y ∷ ys) ∷ zs))) (leb e f)
+    (λ t. record { fit = (record { after = leb-true e f t; sit = h .0 .sit }, h .1); same = prefl _; long = refl })
+    (λ t. let gt : f < e = leb-false e f t in
+    let k : ℕ = f + cells c + suc (length (ys ++ (x ∷ []))) * cells c in
+    let ek : k ≡ f + suc (suc (length ys)) * cells c + cells c = simp length-snoc (omega arith) in
+    holds-map (Shifted n (suc c) k zs) (Shifted n c e (from f x (y ∷ ys) ∷ zs)) (from (f + cells c) y (ys ++ (x ∷ [])))
+    (λ r m. record {
+      fit = (record { after = omega (arith, h .0 .after); sit = pall (Sits c) (psym (protate x (y ∷ ys))) (h .0 .sit) }, m .fit);
+      same = ptrans (pleft (y ∷ (ys ++ (x ∷ []))) (m .same)) (pright (blocks zs) (protate x (y ∷ ys)));
+      long = ap suc (m .long);
+    })
+    (shift cells n (suc c) k zs)
+    (shift-fit n (suc c) (f + suc (suc (length ys)) * cells c) k zs (h .1) (omega arith) (omega (arith, cells-mono c))))
