@@ -1,4 +1,4 @@
--- The four edits: each answers and leaves what document 01 says, and keeps the layout valid. Delete, set and drop are refused with 9 only.
+-- The four edits: each answers and leaves what the specification says, and keeps the layout valid. Delete, set and drop are refused with 9 only.
 use mathlib.Core.Path.{_≡_, refl, sym, ap, _∙_}
 use mathlib.Core.Bool.{true, false, _||_}
 use mathlib.Core.Logic.{_≢_}

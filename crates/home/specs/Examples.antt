@@ -1,4 +1,4 @@
--- Bench cases 1 to 7 of document 01, and edits worked out by an independent model, as tables that the checker computes.
+-- Bench cases 1 to 7 of the specification, and edits worked out by an independent model, as tables that the checker computes.
 use mathlib.Core.Path.{_≡_, refl}
 use mathlib.Core.Bool.{Bool, true, false, not, _&&_}
 use mathlib.Core.List.{List, [], _∷_, _++_}

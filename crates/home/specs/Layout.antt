@@ -1,4 +1,4 @@
--- The layout with document 01's capacities: moves and validity with the table put in.
+-- The layout with the specification's capacities: moves and validity with the table put in.
 use mathlib.Core.Bool.{Bool}
 use mathlib.Core.Option.{Option}
 use mathlib.Core.List.{List}

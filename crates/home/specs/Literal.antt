@@ -1,4 +1,4 @@
--- Placing as document 01 words it: the next higher zone's first block is lifted off, the block put in, and the lifted one placed by placing itself.
+-- Placing as the specification words it: the next higher zone's first block is lifted off, the block put in, and the lifted one placed by placing itself.
 use mathlib.Core.Option.{Option, none, some, Option·map}
 use mathlib.Core.List.{List, [], _∷_}
 use Prim.Native.Nat.{ℕ, zero, suc, _+_}

@@ -1,4 +1,4 @@
--- Placing as document 01 words it gives what `place` gives.
+-- Placing as the specification words it gives what `place` gives.
 use mathlib.Core.Path.{_≡_, refl, sym, ap, _∙_}
 use mathlib.Core.Bool.{Bool, true, false}
 use mathlib.Core.Option.{Option, none, some, Option·map}

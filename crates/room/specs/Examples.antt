@@ -1,4 +1,4 @@
--- Bench cases 2 to 5 of document 01 on the zone table, in an area of 16 cells.
+-- Bench cases 2 to 5 of the specification on the zone table, in an area of 16 cells.
 use mathlib.Core.Path.{_≡_, refl}
 use mathlib.Core.Bool.{Bool, true, false, not, _&&_}
 use mathlib.Core.List.{List, [], _∷_}
