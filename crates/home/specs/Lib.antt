@@ -30,7 +30,6 @@ pub mod FoundLaws
 pub mod PassLaws
 pub mod ChecksLaws
 pub mod LookupLaws
-pub mod ByteLaws
 pub mod CheckTurns
 pub mod Lookup
 pub mod LookupTurns

@@ -25,6 +25,10 @@ unfoldable pub rankAt : List ℕ → ℕ → ℕ → ℕ → ℕ
 rankAt h t i zero = 0
 rankAt h t i (suc n) = pick (ltb (tagAt h i) t) (suc (rankAt h t (suc i) n)) 0
 
--- whether a tag is there, and its rank
+-- the number of a tag's entry, or of the one that it would be
+abbrev pub indexOf : List ℕ → ℕ → ℕ
+indexOf h t = rankAt h t 0 (get16 h 0)
+
+-- whether a tag is there, and at which entry
 unfoldable pub slotOf : List ℕ → ℕ → Slot
-slotOf h t = pick (entered h t 0 (get16 h 0)) (At (rankAt h t 0 (get16 h 0))) (Absent (rankAt h t 0 (get16 h 0)))
+slotOf h t = pick (entered h t 0 (get16 h 0)) (At (indexOf h t)) (Absent (indexOf h t))

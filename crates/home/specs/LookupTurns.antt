@@ -5,7 +5,6 @@ use mathlib.Core.Logic.{_≢_}
 use mathlib.Core.List.{List, []}
 use Prim.Native.Nat.{ℕ, zero, suc, _+_, _*_, _-_, _≤_, _<_}
 use native.Mathlib.Omega.{arith}
-use native.Mathlib.Nat.{zero-add}
 use lib.Dec.{ltb, eqb}
 use lib.ListN.{length, take, drop}
 use borrow.Author.Tests.{ltb-true, ltb-false, lt-ltb, eqb-false, ne-eqb}
@@ -149,30 +148,6 @@ slot-absent h t i e j a q =
     by-test (entered h t 0 (get16 h 0))
     (λ u. clash i (rankAt h t 0 (get16 h 0)) (sym (rw u at e)))
     (λ u. entered-not h t 0 (get16 h 0) u j (omega arith) (omega arith) (sym q))
-
--- where it would stand: behind the lower tags and before the higher ones
-pub record Gap (h : List ℕ) (t i : ℕ) : Type 0 where
-  pub most : i ≤ get16 h 0
-  pub below : (j : ℕ) → j < i → tagAt h j < t
-  pub above : (j : ℕ) → i ≤ j → j < get16 h 0 → t < tagAt h j
-
-pub slot-gap : (h : List ℕ) (t i : ℕ) → Ordered h → slotOf h t ≡ Absent i → Gap h t i
-unfolding slotOf
-slot-gap h t i o e =
-    let n : ℕ = get16 h 0 in
-    let r : ℕ = rankAt h t 0 n in
-    by-test (entered h t 0 n)
-    (λ u. clash i r (sym (rw u at e)))
-    (λ u. let f : Absent r ≡ Absent i = rw u at e in
-    let g : i ≡ r = cc in
-    rw g (record {
-      most = find-most h t;
-      below = λ j a. rank-low h t 0 n j (omega arith) (omega arith);
-      above = λ j a b.
-          let k : t ≤ tagAt h r = rw (zero-add r) at (rank-high h t 0 n (omega arith)) in
-          let d : tagAt h j ≡ t → ⊥ = entered-not h t 0 n u j (omega arith) (omega arith) in
-          by-eq j r (λ q. let z : tagAt h j ≡ tagAt h r = ap (tagAt h) q in omega arith) (λ q. omega (arith, o .rise r j (omega arith) b));
-    }))
 
 -- ---- a tag's list
 

@@ -3,10 +3,11 @@ ghost use mathlib.Core.Path.{_≡_};
 ghost use mathlib.Core.Bool.{true};
 ghost use Prim.Native.Nat.{_≤_, _<_};
 ghost use lib.ListN.{length};
+ghost use Rattle.wire.specs.Bytes.{get16};
 ghost use Rattle.records.specs.Records.{encode as recordBytes};
 ghost use Rattle.home.specs.Bytes.{firstAt, manyAt};
 ghost use Rattle.home.specs.Sound.{sound as isSound, listOf};
-ghost use Rattle.home.specs.Lookup.{Ordered, slotOf};
+ghost use Rattle.home.specs.Lookup.{Ordered, indexOf, slotOf};
 
 // Where a tag stands in the dictionary, or would stand: the entries before it.
 pub enum Slot {
@@ -30,14 +31,13 @@ pub fn zone_count(home: &[u8], c: usize) -> usize
     wire::get16(home, 2 + 4 * c + 2)
 }
 
-// Finds a tag in the dictionary by halving.
-pub fn find(home: &[u8], tag: u32) -> Slot
+// The number of a tag's entry in the dictionary, or of the one that it would be, by halving.
+pub fn index_of(home: &[u8], tag: u32) -> usize
     requires { ⌜ Ordered (now home) ⌝ }
-    ensures { λ r. ⌜ r ≡ slotOf (now (home .entry)) tag ⌝ }
+    ensures { λ r. ⌜ (r ≡ indexOf (now (home .entry)) tag) × (r ≤ get16 (now (home .entry)) 0) ⌝ }
 {
-    let n = wire::get16(home, 0);
     let mut low = 0;
-    let mut high = n;
+    let mut high = wire::get16(home, 0);
     while low < high {
         let mid = low + (high - low) / 2;
         if wire::get32(home, 128 + 6 * mid) < tag {
@@ -46,13 +46,22 @@ pub fn find(home: &[u8], tag: u32) -> Slot
             high = mid;
         }
     }
-    if low == n {
-        return Slot::Absent(low);
+    low
+}
+
+// Finds a tag in the dictionary.
+pub fn find(home: &[u8], tag: u32) -> Slot
+    requires { ⌜ Ordered (now home) ⌝ }
+    ensures { λ r. ⌜ r ≡ slotOf (now (home .entry)) tag ⌝ }
+{
+    let i = index_of(home, tag);
+    if i == wire::get16(home, 0) {
+        return Slot::Absent(i);
     }
-    if wire::get32(home, 128 + 6 * low) == tag {
-        Slot::At(low)
+    if wire::get32(home, 128 + 6 * i) == tag {
+        Slot::At(i)
     } else {
-        Slot::Absent(low)
+        Slot::Absent(i)
     }
 }
 

@@ -1,7 +1,7 @@
 -- A tag's list read from its bytes, and the answers of a merge.
 use mathlib.Core.Path.{_≡_, refl, ap, ap₂, _∙_}
 use mathlib.Core.Bool.{true}
-use Prim.Native.Nat.{ℕ, _*_, _%_, _≤_, _<_}
+use Prim.Native.Nat.{ℕ, _*_, _≤_, _<_}
 use native.Mathlib.Omega.{arith}
 use mathlib.Core.List.{List}
 use lib.ListN.{length}
@@ -10,7 +10,7 @@ use Rattle.wire.specs.Bytes.{over}
 use Rattle.records.specs.declared.Record.{Record}
 use Rattle.records.specs.declared.Merge.{Merge}
 use Rattle.records.specs.Records.{merge, encode, decode}
-use Rattle.records.specs.Edits.{length-encode, decode-encode}
+use Rattle.records.specs.Edits.{decode-encode}
 use Rattle.home.specs.ChangeLaws.{Listed}
 use Rattle.home.specs.EditsLaws.{valid-listed}
 use Rattle.home.specs.HomeLaws.{all-mem}
@@ -31,9 +31,6 @@ sound-listed h t e =
 
 pub list-reads : (h : List ℕ) (t : ℕ) (bs : List ℕ) → sound h ≡ true → bs ≡ encode (listOf h t) → decode bs ≡ listOf h t
 list-reads h t bs e f = ap decode f ∙ decode-encode (listOf h t) (all-mem (listOf h t) (sound-listed h t e .fits))
-
-pub list-whole : (h : List ℕ) (t : ℕ) (bs : List ℕ) → bs ≡ encode (listOf h t) → length bs % 8 ≡ 0
-list-whole h t bs f = omega (arith, ap length f, length-encode (listOf h t))
 
 -- a merge of what was read is the merge of the two lists
 pub merged-is : (m : Merge) (h : List ℕ) (t u : ℕ) (xs ys : List ℕ) → sound h ≡ true → xs ≡ encode (listOf h t) → ys ≡ encode (listOf h u)

@@ -3,7 +3,6 @@ use log::Head;
 use log::Outcome;
 use records::Merge;
 ghost use mathlib.Core.Path.{_≡_};
-ghost use Prim.Native.Nat.{_%_};
 ghost use lib.ListN.{length};
 ghost use lib.Dec.{eqb};
 ghost use Rattle.log.specs.Image.{home as homeOf};
@@ -174,7 +173,6 @@ pub fn format(image: &mut [u8], capacity: usize, pages: usize, n: usize) -> Outc
 
 // A merge of two lists to an output, if it has room for it.
 fn merge_lists(m: Merge, xs: &[u8], ys: &[u8], out: &mut [u8]) -> Answer
-    requires { ⌜ (length (now xs) % 8 ≡ 0) × (length (now ys) % 8 ≡ 0) ⌝ }
     ensures { λ r. ⌜ r ≡ fitted (merged m (decode (now (xs .entry))) (decode (now (ys .entry)))) (now (out .entry)) ⌝ }
     ensures { λ _. ⌜ now (out .exit) ≡ filled (merged m (decode (now (xs .entry))) (decode (now (ys .entry)))) (now (out .entry)) ⌝ }
 {

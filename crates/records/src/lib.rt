@@ -2,7 +2,7 @@
 ghost use mathlib.Core.Path.{_≡_};
 ghost use mathlib.Core.Bool.{true};
 ghost use mathlib.Core.List.{[]};
-ghost use Prim.Native.Nat.{_+_, _*_, _/_, _%_, _≤_, _<_};
+ghost use Prim.Native.Nat.{_+_, _*_, _/_, _≤_, _<_};
 ghost use lib.ListN.{length, getD};
 ghost use lib.Dec.{ltb};
 ghost use Rattle.wire.specs.Bytes.{get32, over};
@@ -97,7 +97,6 @@ fn store(s: &mut [u8], at: usize, r: Record)
 
 // Whether records are strictly rising by their primary parts.
 pub fn rising(s: &[u8]) -> bool
-    requires { ⌜ length (now s) % 8 ≡ 0 ⌝ }
     ensures { λ r. ⌜ r ≡ ordered (decode (now (s .entry))) ⌝ }
 {
     let n = s.len() / 8;
@@ -116,7 +115,7 @@ pub fn rising(s: &[u8]) -> bool
 
 // Finds a key in a rising list by halving.
 pub fn search(s: &[u8], key: u64) -> Place
-    requires { ⌜ (length (now s) % 8 ≡ 0) × (ordered (decode (now s)) ≡ true) ⌝ }
+    requires { ⌜ ordered (decode (now s)) ≡ true ⌝ }
     ensures { λ r. ⌜ r ≡ place key (decode (now (s .entry))) ⌝ }
 {
     let n = s.len() / 8;
@@ -142,7 +141,7 @@ pub fn search(s: &[u8], key: u64) -> Place
 
 // Puts a record in at a rank of a list that has a free cell behind it.
 pub fn insert(s: &mut [u8], i: usize, r: Record)
-    requires { ⌜ (length (now s) % 8 ≡ 0) × (8 * i + 8 ≤ length (now s)) ⌝ }
+    requires { ⌜ 8 * i + 8 ≤ length (now s) ⌝ }
     ensures { λ _. ⌜ now (s .exit) ≡ inserted (now (s .entry)) i r ⌝ }
 {
     let at = 8 * i;
@@ -153,7 +152,7 @@ pub fn insert(s: &mut [u8], i: usize, r: Record)
 
 // Takes the record at a rank out of a list. The last cell becomes zero.
 pub fn remove(s: &mut [u8], i: usize)
-    requires { ⌜ (length (now s) % 8 ≡ 0) × (8 * i + 8 ≤ length (now s)) ⌝ }
+    requires { ⌜ 8 * i + 8 ≤ length (now s) ⌝ }
     ensures { λ _. ⌜ now (s .exit) ≡ removed (now (s .entry)) i ⌝ }
 {
     let at = 8 * i;
@@ -165,7 +164,7 @@ pub fn remove(s: &mut [u8], i: usize)
 
 // Sets the minutes of the record at a rank.
 pub fn set_minutes(s: &mut [u8], i: usize, minutes: u8)
-    requires { ⌜ (length (now s) % 8 ≡ 0) × (8 * i + 8 ≤ length (now s)) ⌝ }
+    requires { ⌜ 8 * i + 8 ≤ length (now s) ⌝ }
     ensures { λ _. ⌜ now (s .exit) ≡ amended (now (s .entry)) i minutes ⌝ }
 {
     s[8 * i + 7] = minutes;
@@ -278,7 +277,6 @@ fn emit(
 
 // How many records a merge of two lists has.
 pub fn merge_count(m: Merge, a: &[u8], b: &[u8]) -> usize
-    requires { ⌜ (length (now a) % 8 ≡ 0) × (length (now b) % 8 ≡ 0) ⌝ }
     ensures { λ r. ⌜ r ≡ length (merge m (decode (now (a .entry))) (decode (now (b .entry)))) ⌝ }
 {
     let mut i = 0;
@@ -295,7 +293,7 @@ pub fn merge_count(m: Merge, a: &[u8], b: &[u8]) -> usize
 
 // Writes a merge of two lists to an output that has room for it. Bytes beyond stay.
 pub fn merge_into(m: Merge, a: &[u8], b: &[u8], out: &mut [u8]) -> usize
-    requires { ⌜ (length (now a) % 8 ≡ 0) × (length (now b) % 8 ≡ 0) × (8 * length (merge m (decode (now a)) (decode (now b))) ≤ length (now out)) ⌝ }
+    requires { ⌜ 8 * length (merge m (decode (now a)) (decode (now b))) ≤ length (now out) ⌝ }
     ensures { λ r. ⌜ r ≡ length (merge m (decode (now (a .entry))) (decode (now (b .entry)))) ⌝ }
     ensures { λ _. ⌜ now (out .exit) ≡ over (now (out .entry)) 0 (encode (merge m (decode (now (a .entry))) (decode (now (b .entry))))) ⌝ }
 {

@@ -1,5 +1,7 @@
 // Room: whether a block will find room, asked of the zone table alone, so that nothing is stored before the answer is known.
 use home::classes::cells;
+use home::lookup::zone_count;
+use home::lookup::zone_first;
 ghost use mathlib.Core.Path.{_≡_};
 ghost use Prim.Native.Nat.{_+_, _-_, _<_, _≤_};
 ghost use lib.ListN.{length, drop};
@@ -208,8 +210,8 @@ pub fn read_table(home: &[u8]) -> Table
     };
     let mut c = 0;
     while c < 30 {
-        let count = wire::get16(home, 2 + 4 * c + 2);
-        let first = first_if(wire::get16(home, 2 + 4 * c), count);
+        let count = zone_count(home, c);
+        let first = first_if(zone_first(home, c), count);
         t.first[c] = narrow(first);
         t.count[c] = narrow(count);
         c += 1;

@@ -22,10 +22,10 @@ use Rattle.home.specs.HomeLaws.{ReadsAt, Entries, block-back, block-starts}
 use Rattle.zones.specs.JoinLaws.{join-part}
 use Rattle.zones.specs.StateLaws.{ld}
 use Rattle.zones.specs.HomeLaws.{Loose, length-zones, fine, encode-state}
-use Rattle.zones.specs.Moves.{zoned, moved}
+use Rattle.zones.specs.Moves.{Movable, zoned, moved}
 use Rattle.zones.specs.SpotLaws.{spot, in-context, init-last, length-init, lower-before}
 use Rattle.zones.specs.StepLaws.{firstOf, manyOf, home-lowered}
-use Rattle.zones.specs.LooseLaws.{length-loose, entries-loose, zone-at, Movable, movable, fit-lower, fit-above, loose-joined}
+use Rattle.zones.specs.LooseLaws.{length-loose, entries-loose, zone-at, movable, fit-lower, fit-above, loose-joined}
 use Rattle.zones.specs.Room.{endAfter}
 use Rattle.zones.specs.RoomLaws.{at-zone, take-here, drop-next, zone-here, take-next, drop-here, end-next}
 use Rattle.zones.specs.Close.{lowest, zoneOf, lowBytes, lowEnd, Open, closedBytes}

@@ -8,12 +8,11 @@ use native.Mathlib.Nat.{mul-le-mul-left}
 use native.Mathlib.Numerals.{add-one}
 use lib.Dec.{leb, ltb}
 use lib.ListN.{length, take, drop, take-append-drop}
-use Rattle.wire.specs.Bytes.{get16, get32}
 use Rattle.home.specs.Capacities.{cells}
 use Rattle.home.specs.Bytes.{cellAt, firstAt, manyAt, decode}
 use Rattle.home.specs.Sound.{pagesOf}
 use Rattle.home.specs.Cases.{by-pick}
-use Rattle.zones.specs.Moves.{indexOf, Rising, zoned, moved}
+use Rattle.zones.specs.Moves.{Movable, zoned, moved}
 use Rattle.zones.specs.Room.{Ready, liftTo, liftFirst, hasRoom, roomed, endAfter}
 use Rattle.zones.specs.RoomLaws.{room-end, Same, zone-passed, zone-stays, Lifts, Moves, zone-lifts}
 use Rattle.home.specs.Zones.{Zone}
@@ -91,10 +90,10 @@ module _ (h : List ℕ) (c e f n k : ℕ) (l : Lifting h c e f n k) where
       (sym t ∙ a ∙ sym (lifts .answer), subst (λ (x : List ℕ). Moves (pagesOf h) x (roomed h c e) c e f n) (sym a') (lifts .moves (sym a ∙ t)))
 
   pub code-requires : (to : ℕ) (h' : List ℕ) → to ≡ liftTo e f n k → Moves (pagesOf h) h' (roomed h c e) c e f n
-      → ((c < 30) × (cellAt f + 8 * cells c ≤ length h') × (cellAt to + 8 * cells c ≤ length h')) × ((get16 h' 0 ≤ 256) × (indexOf h' (get32 h' (cellAt f)) < get16 h' 0) × Rising h')
+      → ((c < 30) × (cellAt f + 8 * cells c ≤ length h') × (cellAt to + 8 * cells c ≤ length h')) × Movable h' f
   code-requires to h' q m =
       let e' : to ≡ liftTo e f n (cells c) = rw (l .size) at q in
-      ((l .under, m .old, subst (λ (x : ℕ). cellAt x + 8 * cells c ≤ length h') (sym e') (m .new)), (m .movable .few, m .movable .found, m .movable .rising))
+      ((l .under, m .old, subst (λ (x : ℕ). cellAt x + 8 * cells c ≤ length h') (sym e') (m .new)), m .movable)
 
   pub code-done : (to first : ℕ) (h' : List ℕ) → to ≡ liftTo e f n k → first ≡ liftFirst e f n k → Moves (pagesOf h) h' (roomed h c e) c e f n → zoned (moved h' c f to) c first n ≡ roomed h c e
   code-done to first h' q q' m =
@@ -136,10 +135,10 @@ module _ (h₀ h : List ℕ) (c e f n k : ℕ) (l : Lowering h₀ h c e f n k) w
       (zone-turned (pagesOf h) h (decode h) c e (l .is) (l .under) (λ q. l .some (l .many ∙ q)) b'))
 
   pub lower-requires : e + k ≤ f → ((c < 30) × (cellAt (f - k + n * k) + 8 * cells c ≤ length h) × (cellAt (f - k) + 8 * cells c ≤ length h))
-      × ((get16 h 0 ≤ 256) × (indexOf h (get32 h (cellAt (f - k + n * k))) < get16 h 0) × Rising h)
+      × Movable h (f - k + n * k)
   lower-requires b =
       let t : Turned (pagesOf h) h (decode h) c e f n = turn b in
-      rw (l .size) ((l .under, t .old, t .new), (t .movable .few, t .movable .found, t .movable .rising))
+      rw (l .size) ((l .under, t .old, t .new), t .movable)
 
   pub lower-next : e + k ≤ f → Lowering h₀ (zoned (moved h c (f - k + n * k) (f - k)) c (f - k) n) c e (f - k) n k
   lower-next b = let t : Turned (pagesOf h) h (decode h) c e f n = turn b in

@@ -2,13 +2,13 @@
 use mathlib.Core.Path.{_≡_, refl, sym, ap, ap₂, _∙_}
 use mathlib.Core.Logic.{inl, _≢_}
 use mathlib.Core.List.{List, [], _∷_, _++_, append-assoc}
-use Prim.Native.Nat.{ℕ, suc, _+_, _*_, _-_, _≤_, _<_}
+use Prim.Native.Nat.{ℕ, zero, suc, _+_, _*_, _-_, _≤_, _<_}
 use native.Mathlib.Omega.{arith}
 use lib.Dec.{ltb}
 use lib.ListN.{length, drop, replicate, length-append, length-replicate, replicate-append-replicate}
 use lib.Seq.{drop-drop}
 use borrow.Author.Tests.{ltb-true, ltb-false, lt-ltb, le-ltb}
-use Rattle.wire.specs.Bytes.{part, over, get16, get32, bytes16, bytes32}
+use Rattle.wire.specs.Bytes.{pick, part, over, get16, get32, bytes16, bytes32}
 use Rattle.wire.specs.BytesLaws.{over-append, length-bytes16, length-bytes32}
 use Rattle.wire.specs.Cases.{by-lt}
 use Rattle.wire.specs.All.{All, none, more, all-map}
@@ -20,8 +20,7 @@ use Rattle.home.specs.Checks.{tagAt, placeAt, entriesAt}
 use Rattle.home.specs.BytesLaws.{get16-front, get32-front, part-join}
 use Rattle.home.specs.HomeLaws.{get16-at, get32-at, length-entriesBytes}
 use Rattle.home.specs.DictionaryLaws.{Else, Below}
-use Rattle.zones.specs.Moves.{rank}
-use Rattle.zones.specs.MovesLaws.{rank-past, rank-here}
+use Rattle.home.specs.Lookup.{rankAt}
 use Rattle.zones.specs.JoinLaws.{over-seam}
 use Rattle.zones.specs.AreaLaws.{over-comm}
 
@@ -119,11 +118,22 @@ pub sorted-one : (x : Entry) (xs : List Entry) (k : Parted (x .tag) (sorted xs))
 unfolding sorted
 sorted-one x xs k = ap (enter x) (k .is) ∙ enter-at x (k .pre) (k .post) (k .low) (k .high)
 
+-- ---- how many entries stand before the first whose tag is not below t
+
+unfoldable pub rank : ℕ → List Entry → ℕ
+rank t [] = 0
+rank t (x ∷ xs) = pick (ltb (x .tag) t) (suc (rank t xs)) 0
+
+pub rank-entries : (h : List ℕ) (t i n : ℕ) → rankAt h t i n ≡ rank t (entriesAt h i n)
+unfolding rankAt rank entriesAt
+rank-entries h t i zero = refl
+rank-entries h t i (suc n) = ap (λ (k : ℕ). pick (ltb (tagAt h i) t) (suc k) 0) (rank-entries h t (suc i) n)
+
 pub rank-at : (t : ℕ) (pre post : List Entry) → All (λ (d : Entry). d .tag < t) pre → All (λ (d : Entry). t ≤ d .tag) post → rank t (pre ++ post) ≡ length pre
 unfolding rank
 rank-at t [] [] l h = refl
-rank-at t [] (y ∷ post) l (more b h) = rank-here t y post b
-rank-at t (y ∷ pre) post (more b l) h = rank-past t y (pre ++ post) b ∙ ap suc (rank-at t pre post l h)
+rank-at t [] (y ∷ post) l (more b h) = rw (le-ltb (y .tag) t b)
+rank-at t (y ∷ pre) post (more b l) h = rw (lt-ltb (y .tag) t b) (ap suc (rank-at t pre post l h))
 
 -- ---- their bytes
 

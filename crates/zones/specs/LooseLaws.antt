@@ -1,33 +1,28 @@
 -- Layouts that are valid but for their gaps: their zones and entries read off the bytes, and zones exchanged.
 use mathlib.Core.Path.{_≡_, refl, sym, ap, _∙_, subst}
-use mathlib.Core.Logic.{inl, inr}
 use mathlib.Core.List.{List, [], _∷_, _++_, map, append-assoc}
 use Prim.Native.Nat.{ℕ, zero, suc, _+_, _*_, _≤_, _<_}
 use native.Mathlib.Omega.{arith}
 use lib.Dec.{leb}
 use lib.ListN.{length, getD, replicate, length-append}
 use borrow.Author.Tests.{leb-true, leb-false}
-use Rattle.wire.specs.Bytes.{get16, get32}
-use Rattle.wire.specs.Cases.{by-eq}
-use Rattle.wire.specs.All.{more, all-map}
 use Rattle.home.specs.Capacities.{cells}
 use Rattle.home.specs.CapacitiesLaws.{cells-mono}
 use Rattle.home.specs.Zones.{Block, Zone, empty, from, blocks, lifted, endOf, shift}
-use Rattle.home.specs.Perm.{Perm, pnil, pskip, ptrans, In, Pairs, after}
-use Rattle.home.specs.PermLaws.{prefl, psym, pleft, pright, protate, plength, pall, ppairs, all-in}
+use Rattle.home.specs.Perm.{Perm, pnil, pskip, ptrans, Pairs, after}
+use Rattle.home.specs.PermLaws.{prefl, psym, pleft, pright, protate, plength, pall, ppairs}
 use Rattle.home.specs.Valid.{Other}
 use Rattle.home.specs.Layout.{Sits, Fit}
 use Rattle.home.specs.Cases.{by-pick, Holds, holds-map}
 use Rattle.home.specs.PlaceLaws.{length-snoc}
-use Rattle.home.specs.Bytes.{Spot, spots, Entry, entryOf, sorted, dictionary, padded, entries, area, encode, cellAt, firstAt, manyAt}
-use Rattle.home.specs.Checks.{tagAt, placeAt, entriesAt}
+use Rattle.home.specs.Bytes.{Spot, spots, Entry, entryOf, sorted, dictionary, padded, entries, area, encode, firstAt, manyAt}
 use Rattle.home.specs.AreaLaws.{length-area}
 use Rattle.home.specs.HomeLaws.{Entries, entries-read, encode-entries}
 use Rattle.home.specs.DictionaryLaws.{Below, dictionary-rising}
-use Rattle.zones.specs.Moves.{indexOf, rank, Rising}
+use Rattle.zones.specs.Moves.{Movable}
 use Rattle.zones.specs.JoinLaws.{join-length}
-use Rattle.zones.specs.EntryLaws.{Parted, kept, sorted-one, rank-at}
-use Rattle.zones.specs.StateLaws.{state, ld, state-tags, state-entries, state-index, state-bears}
+use Rattle.zones.specs.EntryLaws.{Parted, kept, sorted-one}
+use Rattle.zones.specs.StateLaws.{state, Fine, ld, state-movable}
 use Rattle.zones.specs.StepLaws.{firstOf, manyOf}
 use Rattle.zones.specs.Room.{endAfter}
 use Rattle.zones.specs.HomeLaws.{Loose, length-zones, fine, encode-state, area-bears, others, dictionary-as}
@@ -41,28 +36,6 @@ entry-at h i (empty ∷ zs) zero d g = let e : i + 0 ≡ i = omega arith in rw e
 entry-at h i (from f x xs ∷ zs) zero d g = let e : i + 0 ≡ i = omega arith in rw e (d .0, d .1)
 entry-at h i (empty ∷ zs) (suc k) d g = let e : i + suc k ≡ suc i + k = omega arith in rw e (entry-at h (suc i) zs k (d .2) (omega arith))
 entry-at h i (from f x xs ∷ zs) (suc k) d g = let e : i + suc k ≡ suc i + k = omega arith in rw e (entry-at h (suc i) zs k (d .2) (omega arith))
-
--- ---- entries rise
-
-entry-in : (h : List ℕ) (i n j : ℕ) → i ≤ j → j < i + n → In (record { tag = tagAt h j; cell = placeAt h j }) (entriesAt h i n)
-unfolding entriesAt
-entry-in h i zero j lo hi = absurd (omega arith)
-entry-in h i (suc n) j lo hi = by-eq j i (λ e. inl (ap (λ (k : ℕ). record { tag = tagAt h k; cell = placeAt h k }) e)) (λ d. inr (entry-in h (suc i) n j (omega arith) (omega arith)))
-
-rising-at : (h : List ℕ) (i n a b : ℕ) → Pairs Below (entriesAt h i n) → i ≤ a → a < b → b < i + n → tagAt h a < tagAt h b
-unfolding entriesAt
-rising-at h i zero a b p lo m hi = absurd (omega arith)
-rising-at h i (suc n) a b (after x p) lo m hi =
-    by-eq a i
-    (λ e. subst (λ (k : ℕ). tagAt h k < tagAt h b) (sym e)
-    (all-in (Below (record { tag = tagAt h i; cell = placeAt h i })) (record { tag = tagAt h b; cell = placeAt h b }) (entriesAt h (suc i) n) x (entry-in h (suc i) n b (omega arith) (omega arith))))
-    (λ d. rising-at h (suc i) n a b p (omega arith) m (omega arith))
-
--- a block at cell p in home's bytes that can be moved
-pub record Movable (h : List ℕ) (p : ℕ) : Type 0 where
-  pub few : get16 h 0 ≤ 256
-  pub found : indexOf h (get32 h (cellAt p)) < get16 h 0
-  pub rising : Rising h
 
 module _ (R : ℕ) (small : R ≤ 1024) (zs : List Zone) (v : Loose R zs) where
   abbrev es : List ℕ
@@ -91,17 +64,8 @@ module _ (R : ℕ) (small : R ≤ 1024) (zs : List Zone) (v : Loose R zs) where
       let x : Entry = entryOf s in
       let k : Parted (x .tag) (sorted (map entryOf ss)) = kept x (map entryOf ss) (others R small zs v (s ∷ ss) p) in
       let d : ds ≡ k .pre ++ x ∷ k .post = dictionary-as R small zs v (s ∷ ss) p ∙ sorted-one x (map entryOf ss) k in
-      let same : x .tag ≤ x .tag = omega arith in
-      let i : indexOf (state es ds a) (get32 (state es ds a) (cellAt (s .cell))) ≡ length (k .pre) =
-      ap (indexOf (state es ds a)) (state-bears es a le ds ok (s .cell) ∙ area-bears R small zs v s ss p) ∙ state-index es a le ds ok (x .tag) ∙ ap (rank (x .tag)) d
-      ∙ rank-at (x .tag) (k .pre) (x ∷ k .post) (k .low) (more same (all-map {P = λ (y : Entry). x .tag < y .tag} {Q = λ (y : Entry). x .tag ≤ y .tag} (λ y b. omega arith) (k .high))) in
-      let n : length ds ≡ length (k .pre) + suc (length (k .post)) = ap length d ∙ length-append (k .pre) (x ∷ k .post) in
-      subst (λ (h : List ℕ). Movable h (s .cell)) (sym (encode-state R small zs v))
-      (record {
-        few = omega (arith, state-tags es a le ds ok, ok .few);
-        found = omega (arith, i, n, state-tags es a le ds ok);
-        rising = λ i j b c. rising-at (state es ds a) 0 (get16 (state es ds a) 0) i j (subst (Pairs Below) (sym (state-entries es a le ds ok)) (dictionary-rising zs (v .distinct))) (omega arith) b (omega arith);
-      })
+      subst (λ (h : List ℕ). Movable h (s .cell)) (sym (encode-state R small zs v ∙ ap (λ (l : List Entry). state es l a) d))
+      (state-movable es le (k .pre) (k .post) a (x .tag) (k .low) (k .high) x (s .cell) refl (subst Fine d ok) (subst (Pairs Below) d (dictionary-rising zs (v .distinct))) (area-bears R small zs v s ss p))
 
 -- ---- higher zones exchanged
 

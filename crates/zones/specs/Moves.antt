@@ -1,12 +1,11 @@
 -- What the moves of blocks do to the bytes of home.
-use mathlib.Core.List.{List, [], _∷_, _++_}
-use Prim.Native.Nat.{ℕ, suc, _+_, _*_, _-_, _<_}
-use lib.Dec.{ltb}
+use mathlib.Core.List.{List, _++_}
+use Prim.Native.Nat.{ℕ, _+_, _*_, _-_, _<_}
 use lib.ListN.{replicate}
-use Rattle.wire.specs.Bytes.{pick, part, over, get16, get32, bytes16, bytes32}
+use Rattle.wire.specs.Bytes.{part, over, get16, get32, bytes16, bytes32}
 use Rattle.home.specs.Capacities.{cells}
-use Rattle.home.specs.Bytes.{Entry, cellAt, entryAt}
-use Rattle.home.specs.Checks.{tagAt, entriesAt}
+use Rattle.home.specs.Bytes.{cellAt, entryAt}
+use Rattle.home.specs.Lookup.{Ordered, indexOf}
 
 -- n bytes carried to another place, zeros left behind
 unfoldable pub carried : List ℕ → ℕ → ℕ → ℕ → List ℕ
@@ -14,23 +13,9 @@ carried l from to n = over (over l from (replicate n 0)) to (part l from n)
 
 -- ---- the dictionary
 
--- how many entries stand before the first whose tag is not below t
-unfoldable pub rank : ℕ → List Entry → ℕ
-rank t [] = 0
-rank t (x ∷ xs) = pick (ltb (x .tag) t) (suc (rank t xs)) 0
-
--- the number of tag t's entry, or of the one that it would be
-unfoldable pub indexOf : List ℕ → ℕ → ℕ
-unfolding rank
-indexOf h t = rank t (entriesAt h 0 (get16 h 0))
-
 -- where the i-th entry lies
 abbrev pub wordAt : ℕ → ℕ
 wordAt i = 128 + 6 * i
-
--- the tags rise
-abbrev pub Rising : List ℕ → Type 0
-Rising h = (i j : ℕ) → i < j → j < get16 h 0 → tagAt h i < tagAt h j
 
 -- the i-th entry leads to cell p
 unfoldable pub celled : List ℕ → ℕ → ℕ → List ℕ
@@ -44,7 +29,7 @@ counted h n = over h 0 (bytes16 n)
 
 -- tag t entered with cell p: the entries behind it move up
 unfoldable pub entered : List ℕ → ℕ → ℕ → List ℕ
-unfolding bytes32 counted indexOf
+unfolding bytes32 counted
 entered h t p =
     let n : ℕ = get16 h 0 in
     let i : ℕ = indexOf h t in
@@ -52,7 +37,7 @@ entered h t p =
 
 -- tag t's entry taken out: those behind it move down, and the last one's bytes become zero
 unfoldable pub unentered : List ℕ → ℕ → List ℕ
-unfolding counted indexOf
+unfolding counted
 unentered h t =
     let n : ℕ = get16 h 0 in
     let i : ℕ = indexOf h t in
@@ -64,7 +49,12 @@ unentered h t =
 unfoldable pub zoned : List ℕ → ℕ → ℕ → ℕ → List ℕ
 zoned h c f n = over h (entryAt c) (bytes16 f ++ bytes16 n)
 
+-- the block at cell p has a tag that can be found
+pub record Movable (h : List ℕ) (p : ℕ) : Type 0 where
+  pub ordered : Ordered h
+  pub found : indexOf h (get32 h (cellAt p)) < get16 h 0
+
 -- the block of class c at cell p moved to cell q, and its tag's entry with it
 unfoldable pub moved : List ℕ → ℕ → ℕ → ℕ → List ℕ
-unfolding carried celled indexOf
+unfolding carried celled
 moved h c p q = celled (carried h (cellAt p) (cellAt q) (8 * cells c)) (indexOf h (get32 h (cellAt p))) q

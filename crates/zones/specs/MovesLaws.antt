@@ -1,18 +1,17 @@
--- Laws of moved bytes, and of the search for a tag's entry.
+-- Laws of moved bytes.
 use mathlib.Core.Path.{_≡_, sym, ap, _∙_}
-use mathlib.Core.List.{List, _∷_, _++_}
-use Prim.Native.Nat.{ℕ, zero, suc, _+_, _*_, _-_, _≤_, _<_, min}
+use mathlib.Core.List.{List, _++_}
+use Prim.Native.Nat.{ℕ, _+_, _*_, _-_, _≤_, _<_, min}
 use native.Mathlib.Omega.{arith}
 use lib.ListN.{length, getD, replicate, length-replicate, getD-replicate}
 use lib.Seq.{ext-getD}
-use borrow.Author.Tests.{lt-ltb, le-ltb}
 use Rattle.wire.specs.Bytes.{part, over, get16, get32, bytes16, bytes32}
 use Rattle.wire.specs.BytesLaws.{length-over, over-low, over-in, over-high, over-append, length-part, length-bytes16, length-bytes32}
 use Rattle.wire.specs.Cases.{by-lt, by-within}
 use Rattle.home.specs.Capacities.{cells}
-use Rattle.home.specs.Bytes.{Entry, entryAt, cellAt}
-use Rattle.home.specs.Checks.{tagAt, placeAt, entriesAt}
-use Rattle.zones.specs.Moves.{carried, rank, indexOf, Rising, celled, entered, unentered, zoned, moved}
+use Rattle.home.specs.Bytes.{entryAt, cellAt}
+use Rattle.home.specs.Lookup.{indexOf}
+use Rattle.zones.specs.Moves.{carried, celled, entered, unentered, zoned, moved}
 
 -- ---- a run carried: copied first, then the bytes that it left and does not cover become zero
 
@@ -70,62 +69,6 @@ unfolding carried
 carried-down l from to n a b =
     zeros-last l (part l from n) from to n (from + n - min n (from - to)) (min n (from - to)) (length-part l from n (omega arith)) b (omega arith) (omega arith) (omega arith)
     (λ i c d e f. omega arith) (λ i c d o. by-lt i (to + n) (λ e. absurd (o (omega arith) e)) (λ e. (omega arith, omega arith)))
-
--- ---- the rank of a tag
-
-pub rank-past : (t : ℕ) (x : Entry) (xs : List Entry) → x .tag < t → rank t (x ∷ xs) ≡ suc (rank t xs)
-unfolding rank
-rank-past t x xs g = rw (lt-ltb (x .tag) t g)
-
-pub rank-here : (t : ℕ) (x : Entry) (xs : List Entry) → t ≤ x .tag → rank t (x ∷ xs) ≡ 0
-unfolding rank
-rank-here t x xs g = rw (le-ltb (x .tag) t g)
-
-module _ (h : List ℕ) (t : ℕ) where
-  abbrev entry : ℕ → Entry
-  entry i = record { tag = tagAt h i; cell = placeAt h i }
-
-  most : (i n : ℕ) → rank t (entriesAt h i n) ≤ n
-  unfolding entriesAt rank
-  most i zero = omega arith
-  most i (suc n) = by-lt (tagAt h i) t
-      (λ g. rw (rank-past t (entry i) (entriesAt h (suc i) n) g) (omega (arith, most (suc i) n)))
-      (λ g. rw (rank-here t (entry i) (entriesAt h (suc i) n) g) (omega arith))
-
-  -- an entry with a lower tag stands before it, one with another does not
-  past : (m : ℕ) → ((a b : ℕ) → a < b → b < m → tagAt h a < tagAt h b) → (i n k : ℕ) → i + n ≤ m → k < n → tagAt h (i + k) < t → k < rank t (entriesAt h i n)
-  unfolding entriesAt
-  past m r i zero k q g d = absurd (omega arith)
-  past m r i (suc n) zero q g d = let e : i + 0 ≡ i = omega arith in
-      rw (rank-past t (entry i) (entriesAt h (suc i) n) (rw e at d)) (omega arith)
-  past m r i (suc n) (suc k) q g d =
-      let e : i + suc k ≡ suc i + k = omega arith in
-      let u : tagAt h i < tagAt h (i + suc k) = r i (i + suc k) (omega arith) (omega arith) in
-      let v : k < rank t (entriesAt h (suc i) n) = past m r (suc i) n k (omega arith) (omega arith) (rw e at d) in
-      rw (rank-past t (entry i) (entriesAt h (suc i) n) (omega arith)) (omega arith)
-
-  upto : (i n k : ℕ) → k < n → t ≤ tagAt h (i + k) → rank t (entriesAt h i n) ≤ k
-  unfolding entriesAt
-  upto i zero k g d = absurd (omega arith)
-  upto i (suc n) zero g d = let e : i + 0 ≡ i = omega arith in rw (rank-here t (entry i) (entriesAt h (suc i) n) (rw e at d)) (omega arith)
-  upto i (suc n) (suc k) g d =
-      let e : i + suc k ≡ suc i + k = omega arith in
-      let v : rank t (entriesAt h (suc i) n) ≤ k = upto (suc i) n k (omega arith) (rw e at d) in
-      by-lt (tagAt h i) t
-      (λ b. rw (rank-past t (entry i) (entriesAt h (suc i) n) b) (omega arith))
-      (λ b. rw (rank-here t (entry i) (entriesAt h (suc i) n) b) (omega arith))
-
-  pub index-most : indexOf h t ≤ get16 h 0
-  unfolding indexOf
-  index-most = most 0 (get16 h 0)
-
-  pub index-past : (k : ℕ) → Rising h → k < get16 h 0 → tagAt h k < t → k < indexOf h t
-  unfolding indexOf
-  index-past k r g d = let e : 0 + k ≡ k = omega arith in past (get16 h 0) r 0 (get16 h 0) k (omega arith) g (rw e d)
-
-  pub index-upto : (k : ℕ) → k < get16 h 0 → t ≤ tagAt h k → indexOf h t ≤ k
-  unfolding indexOf
-  index-upto k g d = let e : 0 + k ≡ k = omega arith in upto 0 (get16 h 0) k g (rw e d)
 
 -- ---- numbers written one after the other
 

@@ -21,12 +21,12 @@ use Rattle.home.specs.Cases.{by-pick, Holds}
 use Rattle.home.specs.PlaceLaws.{length-snoc}
 use Rattle.home.specs.Bytes.{Spot, row, spots, encode, cellAt, firstAt, manyAt}
 use Rattle.home.specs.AreaLaws.{Good, spots-good, fit-le}
-use Rattle.zones.specs.Moves.{zoned, moved}
+use Rattle.zones.specs.Moves.{Movable, zoned, moved}
 use Rattle.zones.specs.SpotLaws.{spot, in-context, liftedTo, liftedFirst, lifted-spots}
 use Rattle.zones.specs.HomeLaws.{Loose}
 use Rattle.zones.specs.StepLaws.{firstOf, manyOf, home-lifted}
 use Rattle.zones.specs.Room.{made, settled, above, endAfter, liftTo, liftFirst, Ready}
-use Rattle.zones.specs.LooseLaws.{Movable, movable, zone-at, length-loose, fit-lower, fit-above, loose-joined, Shifted, shift-fit}
+use Rattle.zones.specs.LooseLaws.{movable, zone-at, length-loose, fit-lower, fit-above, loose-joined, Shifted, shift-fit}
 
 -- ---- a layout at zone c
 

@@ -1,22 +1,45 @@
 -- Home's bytes of any zone entries, dictionary and area, and what the moves make of them.
-use mathlib.Core.Path.{_≡_, sym, ap, ap₂, _∙_}
+use mathlib.Core.Path.{_≡_, sym, ap, ap₂, _∙_, subst}
+use mathlib.Core.Logic.{inl, inr}
 use mathlib.Core.List.{List, _∷_, _++_, append-assoc}
-use Prim.Native.Nat.{ℕ, suc, _+_, _*_, _-_, _≤_, _<_}
+use Prim.Native.Nat.{ℕ, zero, suc, _+_, _*_, _-_, _≤_, _<_}
 use native.Mathlib.Omega.{arith}
 use native.Mathlib.Numerals.{add-one}
 use lib.ListN.{length, replicate, length-append}
 use Rattle.wire.specs.Bytes.{part, over, get16, get32, bytes16, bytes32}
 use Rattle.wire.specs.BytesLaws.{length-part, length-over, length-bytes16}
 use Rattle.wire.specs.All.{All, more, all-map}
+use Rattle.wire.specs.Cases.{by-eq}
 use Rattle.home.specs.Capacities.{cells}
 use Rattle.home.specs.Bytes.{Entry, padded, entriesBytes, cellAt}
-use Rattle.home.specs.Checks.{entriesAt}
+use Rattle.home.specs.Checks.{tagAt, placeAt, entriesAt}
+use Rattle.home.specs.Perm.{In, Pairs, after}
+use Rattle.home.specs.PermLaws.{all-in}
+use Rattle.home.specs.DictionaryLaws.{Below}
 use Rattle.home.specs.HomeLaws.{length-padded}
-use Rattle.zones.specs.Moves.{carried, rank, indexOf, celled, entered, unentered, zoned, moved}
-use Rattle.zones.specs.JoinLaws.{join, join-area, join-entry, join-zone, join-count, join-part, join-words, join-tags, join-bears, join-dictionary}
-use Rattle.zones.specs.EntryLaws.{Small, entries-back, rank-at, word, length-word, padded-celled, padded-entered, padded-unentered}
+use Rattle.home.specs.Lookup.{Ordered, indexOf}
+use Rattle.zones.specs.Moves.{carried, Movable, celled, entered, unentered, zoned, moved}
+use Rattle.zones.specs.JoinLaws.{join, join-length, join-area, join-entry, join-zone, join-count, join-part, join-words, join-tags, join-bears, join-dictionary}
+use Rattle.zones.specs.EntryLaws.{Small, entries-back, rank, rank-entries, rank-at, word, length-word, padded-celled, padded-entered, padded-unentered}
 
--- zone entries es, dictionary ds, area a
+-- ---- entries rise
+
+entry-in : (h : List ℕ) (i n j : ℕ) → i ≤ j → j < i + n → In (record { tag = tagAt h j; cell = placeAt h j }) (entriesAt h i n)
+unfolding entriesAt
+entry-in h i zero j lo hi = absurd (omega arith)
+entry-in h i (suc n) j lo hi = by-eq j i (λ e. inl (ap (λ (k : ℕ). record { tag = tagAt h k; cell = placeAt h k }) e)) (λ d. inr (entry-in h (suc i) n j (omega arith) (omega arith)))
+
+rising-at : (h : List ℕ) (i n a b : ℕ) → Pairs Below (entriesAt h i n) → i ≤ a → a < b → b < i + n → tagAt h a < tagAt h b
+unfolding entriesAt
+rising-at h i zero a b p lo m hi = absurd (omega arith)
+rising-at h i (suc n) a b (after x p) lo m hi =
+    by-eq a i
+    (λ e. subst (λ (k : ℕ). tagAt h k < tagAt h b) (sym e)
+    (all-in (Below (record { tag = tagAt h i; cell = placeAt h i })) (record { tag = tagAt h b; cell = placeAt h b }) (entriesAt h (suc i) n) x (entry-in h (suc i) n b (omega arith) (omega arith))))
+    (λ d. rising-at h (suc i) n a b p (omega arith) m (omega arith))
+
+-- ---- zone entries es, dictionary ds, area a
+
 abbrev pub state : List ℕ → List Entry → List ℕ → List ℕ
 state es ds a = join (length ds) es (padded ds) a
 
@@ -50,8 +73,14 @@ module _ (es a : List ℕ) (le : length es ≡ 120) where
         (join-dictionary (length ds) es (padded ds) a le ld ∙ append-assoc (entriesBytes ds) (replicate (1536 - 6 * length ds) 0) a) (ok .small)
 
     pub state-index : (t : ℕ) → indexOf (state es ds a) t ≡ rank t ds
-    unfolding indexOf
-    state-index t = ap (rank t) state-entries
+    state-index t = rank-entries (state es ds a) t 0 (get16 (state es ds a) 0) ∙ ap (rank t) state-entries
+
+    pub state-ordered : Pairs Below ds → Ordered (state es ds a)
+    state-ordered r = record {
+      few = omega (arith, state-tags, ok .few);
+      long = omega (arith, join-length (length ds) es (padded ds) a le ld);
+      rise = λ i j b c. rising-at (state es ds a) 0 (get16 (state es ds a) 0) i j (subst (Pairs Below) (sym state-entries) r) (omega arith) b (omega arith);
+    }
 
     pub state-zoned : (c f k : ℕ) → c < 30 → zoned (state es ds a) c f k ≡ state (over es (4 * c) (bytes16 f ++ bytes16 k)) ds a
     unfolding zoned
@@ -96,6 +125,13 @@ module _ (es : List ℕ) (le : length es ≡ 120) (pre post : List Entry) where
 
     rank-one : (x : Entry) → x .tag ≡ t → rank t (pre ++ x ∷ post) ≡ length pre
     rank-one x q = let b : t ≤ x .tag = omega arith in rank-at t pre (x ∷ post) low (more b not-below)
+
+    pub state-movable : (x : Entry) (p : ℕ) → x .tag ≡ t → Fine (pre ++ x ∷ post) → Pairs Below (pre ++ x ∷ post) → get32 a (8 * p) ≡ t → Movable (state es (pre ++ x ∷ post) a) p
+    state-movable x p e ok r b =
+        let ds : List Entry = pre ++ x ∷ post in
+        let i : indexOf (state es ds a) (get32 (state es ds a) (cellAt p)) ≡ length pre =
+        ap (indexOf (state es ds a)) (state-bears es a le ds ok p ∙ b) ∙ state-index es a le ds ok t ∙ rank-one x e in
+        record { ordered = state-ordered es a le ds ok r; found = omega (arith, i, longer x, long, state-tags es a le ds ok) }
 
     -- a block moved
     pub state-moved : (x : Entry) (c p q : ℕ) → x .tag ≡ t → Fine (pre ++ x ∷ post) → get32 a (8 * p) ≡ t

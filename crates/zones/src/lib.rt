@@ -1,15 +1,19 @@
 // Moving blocks: the code that works on a sound workspace's bytes in place.
 use home::classes::cells;
+use home::lookup::index_of;
+use home::lookup::zone_count;
+use home::lookup::zone_first;
 ghost use mathlib.Core.Path.{_≡_};
 ghost use Prim.Native.Nat.{_+_, _*_, _≤_, _<_, min};
 ghost use lib.ListN.{length};
-ghost use Rattle.wire.specs.Bytes.{get16, get32};
+ghost use Rattle.wire.specs.Bytes.{get16};
 ghost use Rattle.home.specs.Capacities.{cells as sizeOf};
 ghost use Rattle.home.specs.Bytes.{cellAt, decode};
 ghost use Rattle.home.specs.Sound.{pagesOf};
+ghost use Rattle.home.specs.Lookup.{Ordered, indexOf};
 ghost use Rattle.zones.specs.Close.{Open, lowBytes, lowEnd, closedBytes};
 ghost use Rattle.zones.specs.Room.{liftTo, liftFirst, Ready, hasRoom, roomed};
-ghost use Rattle.zones.specs.Moves.{carried, indexOf, Rising, celled, entered, unentered, zoned, moved};
+ghost use Rattle.zones.specs.Moves.{carried, Movable, celled, entered, unentered, zoned, moved};
 
 fn least(a: usize, b: usize) -> usize
     ensures { λ r. ⌜ r ≡ min a b ⌝ }
@@ -32,25 +36,6 @@ fn carry(s: &mut [u8], from: usize, to: usize, n: usize)
     }
 }
 
-// The number of a tag's entry in the dictionary, or of the one that it would be, by halving.
-fn index_of(home: &[u8], tag: u32) -> usize
-    requires { ⌜ (1664 ≤ length (now home)) × (get16 (now home) 0 ≤ 256) × Rising (now home) ⌝ }
-    ensures { λ r. ⌜ (r ≡ indexOf (now (home .entry)) tag) × (r ≤ get16 (now (home .entry)) 0) ⌝ }
-{
-    let n = wire::get16(home, 0);
-    let mut low = 0;
-    let mut high = n;
-    while low < high {
-        let mid = low + (high - low) / 2;
-        if wire::get32(home, 128 + 6 * mid) < tag {
-            low = mid + 1;
-        } else {
-            high = mid;
-        }
-    }
-    low
-}
-
 // Lets the i-th entry lead to cell p.
 fn set_cell(home: &mut [u8], i: usize, p: usize)
     requires { ⌜ (1664 ≤ length (now home)) × (i < 256) ⌝ }
@@ -70,7 +55,7 @@ fn set_zone(home: &mut [u8], c: usize, first: usize, count: usize)
 
 // Enters a tag with its block's first cell.
 fn insert_entry(home: &mut [u8], tag: u32, p: usize)
-    requires { ⌜ (1664 ≤ length (now home)) × (get16 (now home) 0 < 256) × Rising (now home) ⌝ }
+    requires { ⌜ Ordered (now home) × (get16 (now home) 0 < 256) ⌝ }
     ensures { λ _. ⌜ now (home .exit) ≡ entered (now (home .entry)) tag p ⌝ }
 {
     let n = wire::get16(home, 0);
@@ -84,7 +69,7 @@ fn insert_entry(home: &mut [u8], tag: u32, p: usize)
 
 // Takes a tag's entry out.
 fn remove_entry(home: &mut [u8], tag: u32)
-    requires { ⌜ (1664 ≤ length (now home)) × (get16 (now home) 0 ≤ 256) × (indexOf (now home) tag < get16 (now home) 0) × Rising (now home) ⌝ }
+    requires { ⌜ Ordered (now home) × (indexOf (now home) tag < get16 (now home) 0) ⌝ }
     ensures { λ _. ⌜ now (home .exit) ≡ unentered (now (home .entry)) tag ⌝ }
 {
     let n = wire::get16(home, 0);
@@ -98,7 +83,7 @@ fn remove_entry(home: &mut [u8], tag: u32)
 // Moves the block of class c at a cell to another one, and corrects its tag's entry.
 fn move_block(home: &mut [u8], c: usize, from: usize, to: usize)
     requires { ⌜ (c < 30) × (cellAt from + 8 * sizeOf c ≤ length (now home)) × (cellAt to + 8 * sizeOf c ≤ length (now home)) ⌝ }
-    requires { ⌜ (get16 (now home) 0 ≤ 256) × (indexOf (now home) (get32 (now home) (cellAt from)) < get16 (now home) 0) × Rising (now home) ⌝ }
+    requires { ⌜ Movable (now home) from ⌝ }
     ensures { λ _. ⌜ now (home .exit) ≡ moved (now (home .entry)) c from to ⌝ }
 {
     let tag = wire::get32(home, 1664 + 8 * from);
@@ -133,11 +118,11 @@ fn make_room(home: &mut [u8], c: usize, e: usize, area: usize) -> bool
     if c == 30 {
         return e <= area;
     }
-    let n = wire::get16(home, 2 + 4 * c + 2);
+    let n = zone_count(home, c);
     if n == 0 {
         return make_room(home, c + 1, e, area);
     }
-    let f = wire::get16(home, 2 + 4 * c);
+    let f = zone_first(home, c);
     if e <= f {
         return true;
     }
@@ -157,12 +142,12 @@ fn close_zone(home: &mut [u8], c: usize, e: usize) -> usize
     requires { ⌜ Open (pagesOf (now home)) (now home) (decode (now home)) c e × (c < 30) ⌝ }
     ensures { λ r. ⌜ (r ≡ lowEnd (decode (now (home .entry))) c e) × (now (home .exit) ≡ lowBytes (pagesOf (now (home .entry))) (decode (now (home .entry))) c e) ⌝ }
 {
-    let n = wire::get16(home, 2 + 4 * c + 2);
+    let n = zone_count(home, c);
     if n == 0 {
         return e;
     }
     let k = cells(c);
-    let mut f = wire::get16(home, 2 + 4 * c);
+    let mut f = zone_first(home, c);
     while e + k <= f {
         f -= k;
         move_block(home, c, f + n * k, f);

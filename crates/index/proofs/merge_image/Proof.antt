@@ -1,6 +1,6 @@
 use mathlib.Core.Path.{sym, ap, _∙_}
 use Rattle.index.specs.GatesLaws.{image-open, lent-home}
-use Rattle.index.specs.MergesLaws.{list-whole, merged-is, gated-open, gated-shut}
+use Rattle.index.specs.MergesLaws.{merged-is, gated-open, gated-shut}
 use mathlib.Core.List.{List}
 use Prim.Native.Nat.{ℕ}
 use Rattle.records.specs.declared.Record.{Record}
@@ -35,7 +35,7 @@ list-requires-2 c κs =
     ap sound (lent-home l _ gate (c .before .home .ensures)) ∙ image-open l gate .fine
 
 merge-lists-requires : tie.Need-merge-lists-requires
-merge-lists-requires c κs = (list-whole _ _ _ (c .before .before .list .ensures), list-whole _ _ _ (c .before .list2 .ensures))
+merge-lists-requires c κs = search needs
 
 enum-known-r : tie.Need-enum-known-r
 enum-known-r c = search needs

@@ -1,6 +1,6 @@
 use mathlib.Core.Path.{sym, ap, _∙_}
 use Rattle.index.specs.GatesLaws.{space-open}
-use Rattle.index.specs.MergesLaws.{list-whole, merged-is, gated-open, gated-shut}
+use Rattle.index.specs.MergesLaws.{merged-is, gated-open, gated-shut}
 use mathlib.Core.List.{List}
 use Rattle.records.specs.declared.Record.{Record}
 use Rattle.index.specs.Gates.{spaceGate}
@@ -22,7 +22,7 @@ list-requires-2 : tie.Need-list-requires-2
 list-requires-2 c κs = space-open _ (sym (c .before .before .before .space-gate .ensures) ∙ c .before .enum-told .given .1)
 
 merge-lists-requires : tie.Need-merge-lists-requires
-merge-lists-requires c κs = (list-whole _ _ _ (c .before .before .list .ensures), list-whole _ _ _ (c .before .list2 .ensures))
+merge-lists-requires c κs = search needs
 
 enum-known-r : tie.Need-enum-known-r
 enum-known-r c = search needs

@@ -36,7 +36,7 @@ loop-less c = search needs
 loop-again : tie.Need-loop-again Inv-loop μ-loop
 loop-again c =
     let l = c .before .before .before .loop in
-    let g = search-up (c .before .before .before .before .before .args .s .now) (c .before .before .before .before .before .args .key) (l .low + (l .high - l .low) / 2) (c .before .before .before .before .before .pre .1) (omega arith) (omega arith) in
+    let g = search-up (c .before .before .before .before .before .args .s .now) (c .before .before .before .before .before .args .key) (l .low + (l .high - l .low) / 2) (c .before .before .before .before .before .pre) (omega arith) (omega arith) in
     (omega arith, omega arith, omega arith, refl)
 
 loop-less-2 : tie.Need-loop-less-2 Inv-loop μ-loop
@@ -59,12 +59,12 @@ key-at-requires-2 c κs = search needs
 returns-2 : tie.Need-returns-2 Inv-loop μ-loop
 returns-2 c =
     let l = c .before .before .before .before .loop in
-    search-found (c .before .before .before .before .before .before .args .s .now) (c .before .before .before .before .before .before .args .key) (l .low) (c .before .before .before .before .before .before .pre .1) (omega arith) (omega arith) (omega arith)
+    search-found (c .before .before .before .before .before .before .args .s .now) (c .before .before .before .before .before .before .args .key) (l .low) (c .before .before .before .before .before .before .pre) (omega arith) (omega arith) (omega arith)
 
 returns-3 : tie.Need-returns-3 Inv-loop μ-loop
 returns-3 c =
     let l = c .before .before .before .before .loop in
-    search-absent (c .before .before .before .before .before .before .args .s .now) (c .before .before .before .before .before .before .args .key) (l .low) (c .before .before .before .before .before .before .pre .1) (omega arith) (omega arith) (λ e. absurd (c .if3 .left (c .before .key-at2 .ensures .0 ∙ e)))
+    search-absent (c .before .before .before .before .before .before .args .s .now) (c .before .before .before .before .before .before .args .key) (l .low) (c .before .before .before .before .before .before .pre) (omega arith) (omega arith) (λ e. absurd (c .if3 .left (c .before .key-at2 .ensures .0 ∙ e)))
 
 pub search-spec : {M : Type 1} → statement M
 search-spec =

@@ -19,26 +19,11 @@ abbrev μ-loop : tie.MeasureT-loop
 loop-holds : tie.Need-loop-holds Inv-loop μ-loop
 loop-holds c = (omega arith, (refl, refl), read-start _ _ _ refl refl)
 
-mul-get16 : tie.Need-mul-get16 Inv-loop μ-loop
-mul-get16 c = search needs
+zone-count-requires : tie.Need-zone-count-requires Inv-loop μ-loop
+zone-count-requires c κs = search needs
 
-add-get16 : tie.Need-add-get16 Inv-loop μ-loop
-add-get16 c = search needs
-
-add-get16-2 : tie.Need-add-get16-2 Inv-loop μ-loop
-add-get16-2 c = search needs
-
-get16-requires : tie.Need-get16-requires Inv-loop μ-loop
-get16-requires c κs = search needs
-
-mul-get16-2 : tie.Need-mul-get16-2 Inv-loop μ-loop
-mul-get16-2 c = search needs
-
-add-get16-3 : tie.Need-add-get16-3 Inv-loop μ-loop
-add-get16-3 c = search needs
-
-get16-requires-2 : tie.Need-get16-requires-2 Inv-loop μ-loop
-get16-requires-2 c κs = search needs
+zone-first-requires : tie.Need-zone-first-requires Inv-loop μ-loop
+zone-first-requires c κs = search needs
 
 first-if-requires : tie.Need-first-if-requires Inv-loop μ-loop
 first-if-requires c κs = search needs
@@ -74,7 +59,7 @@ loop-again c =
       omega arith,
       (length-set (l .t .first) (l .c) (c .before .narrow .result) ∙ g .0, length-set (l .t .count) (l .c) (c .narrow2 .result) ∙ g .1),
       sym (read-turn (c .before .before .before .before .before .before .before .before .args .home .now) (l .t .first) (l .t .count) (g .0) (g .1) (l .c) (c .before .narrow .result) (c .narrow2 .result) (c .before .before .before .before .before .loop-test .taken)
-          (c .before .narrow .ensures ∙ c .before .before .first-if .ensures .0 ∙ ap₂ firstIf (c .before .before .before .get162 .ensures .0) (c .before .before .before .before .get16 .ensures .0)) (c .narrow2 .ensures ∙ c .before .before .before .before .get16 .ensures .0)) ∙ l .inv .2,
+          (c .before .narrow .ensures ∙ c .before .before .first-if .ensures .0 ∙ ap₂ firstIf (c .before .before .before .zone-first .ensures .0) (c .before .before .before .before .zone-count .ensures .0)) (c .narrow2 .ensures ∙ c .before .before .before .before .zone-count .ensures .0)) ∙ l .inv .2,
     )
 
 returns : tie.Need-returns Inv-loop μ-loop
@@ -90,13 +75,8 @@ read-table-spec =
     Inv-loop
     μ-loop
     loop-holds
-    mul-get16
-    add-get16
-    add-get16-2
-    get16-requires
-    mul-get16-2
-    add-get16-3
-    get16-requires-2
+    zone-count-requires
+    zone-first-requires
     first-if-requires
     narrow-requires
     mul-t

@@ -9,7 +9,8 @@ use borrow.Fn.PlainCycle.{Measures, is, falls, and}
 use Rattle.zones.proofs.make_room.Reads as make-room
 use Rattle.zones.proofs.make_room.Kinds as make-room-kinds
 use Rattle.zones.proofs.+make_room.Lts-make_room as make-room-lts
-use Rattle.wire.proofs.get16.Reads as get16-reads
+use Rattle.home.proofs.lookup.zone_count.Reads as zone-count-reads
+use Rattle.home.proofs.lookup.zone_first.Reads as zone-first-reads
 use Rattle.home.proofs.classes.cells.Reads as cells-reads
 use Rattle.zones.proofs.lift_first.Reads as lift-first-reads
 use Rattle.zones.proofs.lift_to.Reads as lift-to-reads
@@ -29,17 +30,17 @@ make-room-below t =
     and 1 make-room-kinds.ps (falls 1 make-room-kinds.ps _<_ μ-make-room t) make-room.Pre
 
 abbrev claims : ℕ → make-room-lts.Claims
-claims t = (get16-reads.Asked, get16-reads.Learnt, make-room-below t, make-room.Post, cells-reads.Asked, cells-reads.Learnt, lift-to-reads.Asked, lift-to-reads.Learnt, lift-first-reads.Asked, lift-first-reads.Learnt, move-block-reads.Asked, move-block-reads.Learnt, set-zone-reads.Asked, set-zone-reads.Learnt)
+claims t = (zone-count-reads.Asked, zone-count-reads.Learnt, make-room-below t, make-room.Post, zone-first-reads.Asked, zone-first-reads.Learnt, cells-reads.Asked, cells-reads.Learnt, lift-to-reads.Asked, lift-to-reads.Learnt, lift-first-reads.Asked, lift-first-reads.Learnt, move-block-reads.Asked, move-block-reads.Learnt, set-zone-reads.Asked, set-zone-reads.Learnt)
 
 -- what is known once zone c's entry is read
 at-lift : (t : ℕ) (c : make-room-lts.After-cells (claims t) (make-room-at t) make-room.Post)
-    → Lifting (c .before .before .before .before .before .before .before .before .before .args .home .now) (c .before .before .before .before .before .before .before .before .before .args .c) (c .before .before .before .before .before .before .before .before .before .args .e) (c .before .before .get162 .result) (c .before .before .before .before .before .get16 .result) (c .cells .result)
+    → Lifting (c .before .before .before .before .before .before .before .before .before .args .home .now) (c .before .before .before .before .before .before .before .before .before .args .c) (c .before .before .before .before .before .before .before .before .before .args .e) (c .before .before .zone-first .result) (c .before .before .before .before .before .zone-count .result) (c .cells .result)
 at-lift t c =
     record {
       ready = c .before .before .before .before .before .before .before .before .before .pre .1 .0;
       under = below-end _ _ _ _ _ (c .before .before .before .before .before .before .before .before .before .pre .1 .0) (c .before .before .before .before .before .before .before .if1 .left);
-      first = c .before .before .get162 .ensures .0;
-      many = c .before .before .before .before .before .get16 .ensures .0;
+      first = c .before .before .zone-first .ensures .0;
+      many = c .before .before .before .before .before .zone-count .ensures .0;
       some = c .before .before .before .before .if2 .left;
       over = omega (arith, c .before .if3 .left);
       size = c .cells .ensures .0;
@@ -48,17 +49,8 @@ at-lift t c =
 make-room-returns : (t : ℕ) → make-room-lts.Need-returns (claims t) (make-room-at t) make-room.Post
 make-room-returns t c = code-end _ _ _ (c .before .before .pre .1 .0) _ (c .if1 .taken) (c .before .before .pre .1 .1)
 
-make-room-mul-get16 : (t : ℕ) → make-room-lts.Need-mul-get16 (claims t) (make-room-at t) make-room.Post
-make-room-mul-get16 t c = search needs
-
-make-room-add-get16 : (t : ℕ) → make-room-lts.Need-add-get16 (claims t) (make-room-at t) make-room.Post
-make-room-add-get16 t c = search needs
-
-make-room-add-get16-2 : (t : ℕ) → make-room-lts.Need-add-get16-2 (claims t) (make-room-at t) make-room.Post
-make-room-add-get16-2 t c = search needs
-
-make-room-get16-requires : (t : ℕ) → make-room-lts.Need-get16-requires (claims t) (make-room-at t) make-room.Post
-make-room-get16-requires t c κs = omega (arith, ready-long _ _ _ _ _ (c .before .before .before .pre .1 .0))
+make-room-zone-count-requires : (t : ℕ) → make-room-lts.Need-zone-count-requires (claims t) (make-room-at t) make-room.Post
+make-room-zone-count-requires t c κs = omega (arith, ready-long _ _ _ _ _ (c .before .before .before .pre .1 .0))
 
 make-room-add-make-room : (t : ℕ) → make-room-lts.Need-add-make-room (claims t) (make-room-at t) make-room.Post
 make-room-add-make-room t c = search needs
@@ -66,34 +58,28 @@ make-room-add-make-room t c = search needs
 make-room-make-room-requires : (t : ℕ) → make-room-lts.Need-make-room-requires (claims t) (make-room-at t) make-room.Post
 make-room-make-room-requires t c κs =
     let u = below-end _ _ _ _ _ (c .before .before .before .before .before .before .pre .1 .0) (c .before .before .before .before .if1 .left) in
-    (omega (arith, c .before .before .before .before .before .before .pre .0, u), (code-passed _ _ _ (c .before .before .before .before .before .before .pre .1 .0) _ u (c .before .before .get16 .ensures .0) (c .before .if2 .taken), c .before .before .before .before .before .before .pre .1 .1))
+    (omega (arith, c .before .before .before .before .before .before .pre .0, u), (code-passed _ _ _ (c .before .before .before .before .before .before .pre .1 .0) _ u (c .before .before .zone-count .ensures .0) (c .before .if2 .taken), c .before .before .before .before .before .before .pre .1 .1))
 
 make-room-same-length : (t : ℕ) → make-room-lts.Need-same-length (claims t) (make-room-at t) make-room.Post
 make-room-same-length t c = search needs
 
 make-room-returns-2 : (t : ℕ) → make-room-lts.Need-returns-2 (claims t) (make-room-at t) make-room.Post
-make-room-returns-2 t c = code-same _ _ _ (c .before .before .before .before .before .before .before .before .before .pre .1 .0) _ _ _ (below-end _ _ _ _ _ (c .before .before .before .before .before .before .before .before .before .pre .1 .0) (c .before .before .before .before .before .before .before .if1 .left)) (c .before .before .before .before .before .get16 .ensures .0) (c .before .before .before .before .if2 .taken) (c .before .before .make-room .ensures .0) (c .before .before .make-room .ensures .1)
+make-room-returns-2 t c = code-same _ _ _ (c .before .before .before .before .before .before .before .before .before .pre .1 .0) _ _ _ (below-end _ _ _ _ _ (c .before .before .before .before .before .before .before .before .before .pre .1 .0) (c .before .before .before .before .before .before .before .if1 .left)) (c .before .before .before .before .before .zone-count .ensures .0) (c .before .before .before .before .if2 .taken) (c .before .before .make-room .ensures .0) (c .before .before .make-room .ensures .1)
 
-make-room-mul-get16-2 : (t : ℕ) → make-room-lts.Need-mul-get16-2 (claims t) (make-room-at t) make-room.Post
-make-room-mul-get16-2 t c = search needs
-
-make-room-add-get16-3 : (t : ℕ) → make-room-lts.Need-add-get16-3 (claims t) (make-room-at t) make-room.Post
-make-room-add-get16-3 t c = search needs
-
-make-room-get16-requires-2 : (t : ℕ) → make-room-lts.Need-get16-requires-2 (claims t) (make-room-at t) make-room.Post
-make-room-get16-requires-2 t c κs = omega (arith, ready-long _ _ _ _ _ (c .before .before .before .before .before .before .pre .1 .0))
+make-room-zone-first-requires : (t : ℕ) → make-room-lts.Need-zone-first-requires (claims t) (make-room-at t) make-room.Post
+make-room-zone-first-requires t c κs = omega (arith, ready-long _ _ _ _ _ (c .before .before .before .before .before .before .pre .1 .0))
 
 make-room-same-length-2 : (t : ℕ) → make-room-lts.Need-same-length-2 (claims t) (make-room-at t) make-room.Post
 make-room-same-length-2 t c = search needs
 
 make-room-returns-3 : (t : ℕ) → make-room-lts.Need-returns-3 (claims t) (make-room-at t) make-room.Post
-make-room-returns-3 t c = code-stays _ _ _ (c .before .before .before .before .before .before .before .before .pre .1 .0) _ _ (below-end _ _ _ _ _ (c .before .before .before .before .before .before .before .before .pre .1 .0) (c .before .before .before .before .before .before .if1 .left)) (c .before .before .before .before .get16 .ensures .0) (c .before .before .before .if2 .left) (c .before .get162 .ensures .0) (c .if3 .taken)
+make-room-returns-3 t c = code-stays _ _ _ (c .before .before .before .before .before .before .before .before .pre .1 .0) _ _ (below-end _ _ _ _ _ (c .before .before .before .before .before .before .before .before .pre .1 .0) (c .before .before .before .before .before .before .if1 .left)) (c .before .before .before .before .zone-count .ensures .0) (c .before .before .before .if2 .left) (c .before .zone-first .ensures .0) (c .if3 .taken)
 
 make-room-cells-requires : (t : ℕ) → make-room-lts.Need-cells-requires (claims t) (make-room-at t) make-room.Post
 make-room-cells-requires t c κs = search needs
 
 make-room-lift-to-requires : (t : ℕ) → make-room-lts.Need-lift-to-requires (claims t) (make-room-at t) make-room.Post
-make-room-lift-to-requires t c κs = end-small _ _ _ (c .before .before .get162 .ensures .1) (c .before .before .before .before .before .get16 .ensures .1) (c .cells .ensures .1)
+make-room-lift-to-requires t c κs = end-small _ _ _ (c .before .before .zone-first .ensures .1) (c .before .before .before .before .before .zone-count .ensures .1) (c .cells .ensures .1)
 
 make-room-lift-first-requires : (t : ℕ) → make-room-lts.Need-lift-first-requires (claims t) (make-room-at t) make-room.Post
 make-room-lift-first-requires t c κs = search needs
@@ -102,7 +88,7 @@ make-room-add-make-room-2 : (t : ℕ) → make-room-lts.Need-add-make-room-2 (cl
 make-room-add-make-room-2 t c = search needs
 
 make-room-add-make-room-3 : (t : ℕ) → make-room-lts.Need-add-make-room-3 (claims t) (make-room-at t) make-room.Post
-make-room-add-make-room-3 t c = omega (arith, c .before .before .lift-to .ensures, to-small _ _ _ _ (ready-small _ _ _ _ _ (c .before .before .before .before .before .before .before .before .before .before .before .before .pre .1 .0)) (end-small _ _ _ (c .before .before .before .before .before .get162 .ensures .1) (c .before .before .before .before .before .before .before .before .get16 .ensures .1) (c .before .before .before .cells .ensures .1)))
+make-room-add-make-room-3 t c = omega (arith, c .before .before .lift-to .ensures, to-small _ _ _ _ (ready-small _ _ _ _ _ (c .before .before .before .before .before .before .before .before .before .before .before .before .pre .1 .0)) (end-small _ _ _ (c .before .before .before .before .before .zone-first .ensures .1) (c .before .before .before .before .before .before .before .before .zone-count .ensures .1) (c .before .before .before .cells .ensures .1)))
 
 make-room-make-room-requires-2 : (t : ℕ) → make-room-lts.Need-make-room-requires-2 (claims t) (make-room-at t) make-room.Post
 make-room-make-room-requires-2 t c κs = (omega (arith, c .before .before .before .before .before .before .before .before .before .before .before .before .pre .0, at-lift t (c .before .before .before) .under), (code-ready _ _ _ _ _ _ (at-lift t (c .before .before .before)) _ (c .before .before .lift-to .ensures), c .before .before .before .before .before .before .before .before .before .before .before .before .pre .1 .1))
@@ -134,17 +120,12 @@ pub +make-room-spec : {M : Type 1} → statement M
     (make-room-at t)
     make-room.Post
     (make-room-returns t)
-    (make-room-mul-get16 t)
-    (make-room-add-get16 t)
-    (make-room-add-get16-2 t)
-    (make-room-get16-requires t)
+    (make-room-zone-count-requires t)
     (make-room-add-make-room t)
     (make-room-make-room-requires t)
     (make-room-same-length t)
     (make-room-returns-2 t)
-    (make-room-mul-get16-2 t)
-    (make-room-add-get16-3 t)
-    (make-room-get16-requires-2 t)
+    (make-room-zone-first-requires t)
     (make-room-same-length-2 t)
     (make-room-returns-3 t)
     (make-room-cells-requires t)

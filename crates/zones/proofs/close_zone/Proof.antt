@@ -15,40 +15,25 @@ Inv-loop home₀ c e n k f₀ home f = Lowering home₀ home c e f n k × (f + n
 abbrev μ-loop : tie.MeasureT-loop
 μ-loop home₀ c e n k f₀ home f = f
 
-mul-get16 : tie.Need-mul-get16 Inv-loop μ-loop
-mul-get16 c = search needs
-
-add-get16 : tie.Need-add-get16 Inv-loop μ-loop
-add-get16 c = search needs
-
-add-get16-2 : tie.Need-add-get16-2 Inv-loop μ-loop
-add-get16-2 c = search needs
-
-get16-requires : tie.Need-get16-requires Inv-loop μ-loop
-get16-requires c κs = omega (arith, open-long _ _ _ _ _ (c .before .before .pre .0))
+zone-count-requires : tie.Need-zone-count-requires Inv-loop μ-loop
+zone-count-requires c κs = omega (arith, open-long _ _ _ _ _ (c .before .before .pre .0))
 
 same-length : tie.Need-same-length Inv-loop μ-loop
 same-length c = search needs
 
 returns : tie.Need-returns Inv-loop μ-loop
-returns c = let p = zone-none _ _ _ _ _ (c .before .before .before .before .pre .0) (c .before .before .before .before .pre .1) (sym (c .before .get16 .ensures .0) ∙ c .if1 .taken) in (p .1, p .0)
+returns c = let p = zone-none _ _ _ _ _ (c .before .before .before .before .pre .0) (c .before .before .before .before .pre .1) (sym (c .before .zone-count .ensures .0) ∙ c .if1 .taken) in (p .1, p .0)
 
 cells-requires : tie.Need-cells-requires Inv-loop μ-loop
 cells-requires c κs = search needs
 
-mul-get16-2 : tie.Need-mul-get16-2 Inv-loop μ-loop
-mul-get16-2 c = search needs
-
-add-get16-3 : tie.Need-add-get16-3 Inv-loop μ-loop
-add-get16-3 c = search needs
-
-get16-requires-2 : tie.Need-get16-requires-2 Inv-loop μ-loop
-get16-requires-2 c κs = omega (arith, open-long _ _ _ _ _ (c .before .before .before .before .before .before .pre .0))
+zone-first-requires : tie.Need-zone-first-requires Inv-loop μ-loop
+zone-first-requires c κs = omega (arith, open-long _ _ _ _ _ (c .before .before .before .before .before .before .pre .0))
 
 loop-holds : tie.Need-loop-holds Inv-loop μ-loop
 loop-holds c = (
-  record { is = c .before .before .before .before .before .before .before .pre .0; under = c .before .before .before .before .before .before .before .pre .1; first = c .get162 .ensures .0; many = c .before .before .before .before .get16 .ensures .0; some = c .before .before .before .if1 .left; size = c .before .before .cells .ensures .0; low = refl; end = refl },
-  end-small _ _ _ (c .get162 .ensures .1) (c .before .before .before .before .get16 .ensures .1) (c .before .before .cells .ensures .1),
+  record { is = c .before .before .before .before .before .before .before .pre .0; under = c .before .before .before .before .before .before .before .pre .1; first = c .zone-first .ensures .0; many = c .before .before .before .before .zone-count .ensures .0; some = c .before .before .before .if1 .left; size = c .before .before .cells .ensures .0; low = refl; end = refl },
+  end-small _ _ _ (c .zone-first .ensures .1) (c .before .before .before .before .zone-count .ensures .1) (c .before .before .cells .ensures .1),
   omega (arith, c .before .before .cells .ensures .0, cells-pos (c .before .before .before .before .before .before .before .args .c)),
   c .before .before .cells .ensures .1,
   open-small _ _ _ _ _ (c .before .before .before .before .before .before .before .pre .0),
@@ -106,16 +91,11 @@ close-zone-spec =
     (tie.spec
     Inv-loop
     μ-loop
-    mul-get16
-    add-get16
-    add-get16-2
-    get16-requires
+    zone-count-requires
     same-length
     returns
     cells-requires
-    mul-get16-2
-    add-get16-3
-    get16-requires-2
+    zone-first-requires
     loop-holds
     add-loop
     sub-f

@@ -1,6 +1,6 @@
 use native.Mathlib.Omega.{arith}
 use mathlib.Core.Path.{ap}
-use Rattle.zones.specs.Moves.{indexOf}
+use Rattle.home.specs.Lookup.{indexOf}
 use lib.ListN.{length}
 use Rattle.home.specs.CapacitiesLaws.{cells-pos}
 use Rattle.zones.specs.MovesLaws.{moved-is}

@@ -1,108 +1,51 @@
-use mathlib.Core.Path.{_≡_, sym, _∙_}
+use mathlib.Core.Path.{sym, _∙_}
 use native.Mathlib.Omega.{arith}
-use Prim.Native.Nat.{_+_, _-_, _/_, _≤_}
-use Rattle.wire.specs.Bytes.{get16}
-use Rattle.home.specs.Lookup.{rankAt}
-use Rattle.home.specs.LookupTurns.{find-most, find-up, find-down, find-end, find-at, find-absent}
+use Rattle.home.specs.LookupTurns.{find-end, find-at, find-absent}
 use borrow.Author.Needs.{needs}
 use Rattle.home.proofs.lookup.find.Statement.{statement}
 use Rattle.home.proofs.lookup.find.Tie as tie
 
-abbrev Inv-loop : tie.InvT-loop
-Inv-loop home tag n low₀ high₀ low high = (low ≤ rankAt home tag 0 (get16 home 0)) × (rankAt home tag 0 (get16 home 0) ≤ high) × (high ≤ n) × (n ≡ get16 home 0)
+index-of-requires : tie.Need-index-of-requires
+index-of-requires c κs = search needs
 
-abbrev μ-loop : tie.MeasureT-loop
-μ-loop home tag n low₀ high₀ low high = high - low
-
-get16-requires : tie.Need-get16-requires Inv-loop μ-loop
+get16-requires : tie.Need-get16-requires
 get16-requires c κs = search needs
 
-loop-holds : tie.Need-loop-holds Inv-loop μ-loop
-loop-holds c = (omega arith, rw (c .get16 .ensures .0) (find-most (c .before .before .args .home .now) (c .before .before .args .tag)), omega arith, c .get16 .ensures .0)
+returns : tie.Need-returns
+returns c =
+    let a = c .before .before .before .before .args in
+    find-end (a .home .now) (a .tag) (c .before .before .index-of .result) (sym (c .before .before .index-of .ensures .0)) (omega arith)
 
-sub-mid : tie.Need-sub-mid Inv-loop μ-loop
-sub-mid c = search needs
-
-add-mid : tie.Need-add-mid Inv-loop μ-loop
-add-mid c = search needs
-
-mul-get32 : tie.Need-mul-get32 Inv-loop μ-loop
+mul-get32 : tie.Need-mul-get32
 mul-get32 c = search needs
 
-add-get32 : tie.Need-add-get32 Inv-loop μ-loop
+add-get32 : tie.Need-add-get32
 add-get32 c = search needs
 
-get32-requires : tie.Need-get32-requires Inv-loop μ-loop
+get32-requires : tie.Need-get32-requires
 get32-requires c κs = search needs
 
-add-low : tie.Need-add-low Inv-loop μ-loop
-add-low c = search needs
-
-loop-less : tie.Need-loop-less Inv-loop μ-loop
-loop-less c = search needs
-
-loop-again : tie.Need-loop-again Inv-loop μ-loop
-loop-again c =
-    let a = c .before .before .before .before .before .before .args in
-    let l = c .before .before .before .loop in
-    let g = find-up (a .home .now) (a .tag) (c .before .before .before .before .before .before .pre) (l .low + (l .high - l .low) / 2) (omega arith) (omega arith) in
-    (omega arith, omega arith, omega arith, l .inv .3)
-
-loop-less-2 : tie.Need-loop-less-2 Inv-loop μ-loop
-loop-less-2 c = search needs
-
-loop-again-2 : tie.Need-loop-again-2 Inv-loop μ-loop
-loop-again-2 c =
-    let a = c .before .before .before .before .before .before .args in
-    let l = c .before .before .before .loop in
-    let g = find-down (a .home .now) (a .tag) (l .low + (l .high - l .low) / 2) (omega arith) (omega arith) in
-    (omega arith, omega arith, omega arith, l .inv .3)
-
-returns : tie.Need-returns Inv-loop μ-loop
-returns c =
-    let a = c .before .before .before .before .before .args in
-    find-end (a .home .now) (a .tag) (c .before .before .loop .low) (omega arith) (omega arith)
-
-mul-get32-2 : tie.Need-mul-get32-2 Inv-loop μ-loop
-mul-get32-2 c = search needs
-
-add-get32-2 : tie.Need-add-get32-2 Inv-loop μ-loop
-add-get32-2 c = search needs
-
-get32-requires-2 : tie.Need-get32-requires-2 Inv-loop μ-loop
-get32-requires-2 c κs = search needs
-
-returns-2 : tie.Need-returns-2 Inv-loop μ-loop
+returns-2 : tie.Need-returns-2
 returns-2 c =
-    let a = c .before .before .before .before .before .before .before .args in
-    find-at (a .home .now) (a .tag) (c .before .before .before .before .loop .low) (omega arith) (omega arith) (sym (c .before .get322 .ensures) ∙ c .if3 .taken)
+    let a = c .before .before .before .before .before .before .args in
+    let i = c .before .before .before .before .index-of in
+    find-at (a .home .now) (a .tag) (i .result) (sym (i .ensures .0)) (omega arith) (sym (c .before .get32 .ensures) ∙ c .if2 .taken)
 
-returns-3 : tie.Need-returns-3 Inv-loop μ-loop
+returns-3 : tie.Need-returns-3
 returns-3 c =
-    let a = c .before .before .before .before .before .before .before .args in
-    find-absent (a .home .now) (a .tag) (c .before .before .before .before .before .before .before .pre) (c .before .before .before .before .loop .low) (omega arith) (omega arith) (λ e. c .if3 .left (c .before .get322 .ensures ∙ e))
+    let a = c .before .before .before .before .before .before .args in
+    let i = c .before .before .before .before .index-of in
+    find-absent (a .home .now) (a .tag) (c .before .before .before .before .before .before .pre) (i .result) (sym (i .ensures .0)) (omega arith) (λ e. c .if2 .left (c .before .get32 .ensures ∙ e))
 
 pub find-spec : {M : Type 1} → statement M
 find-spec =
     tie.close
     (tie.spec
-    Inv-loop
-    μ-loop
+    index-of-requires
     get16-requires
-    loop-holds
-    sub-mid
-    add-mid
+    returns
     mul-get32
     add-get32
     get32-requires
-    add-low
-    loop-less
-    loop-again
-    loop-less-2
-    loop-again-2
-    returns
-    mul-get32-2
-    add-get32-2
-    get32-requires-2
     returns-2
     returns-3)

@@ -1,24 +1,24 @@
+use mathlib.Core.Path.{sym}
 use native.Mathlib.Omega.{arith}
 use Prim.Native.Nat.{_+_, _-_, _/_, _≤_}
-use mathlib.Core.Path.{_≡_}
 use Rattle.wire.specs.Bytes.{get16}
-use Rattle.zones.specs.Moves.{indexOf}
-use Rattle.zones.specs.MovesLaws.{index-most, index-past, index-upto}
+use Rattle.home.specs.Lookup.{indexOf}
+use Rattle.home.specs.LookupTurns.{find-most, find-up, find-down}
 use borrow.Author.Needs.{needs}
-use Rattle.zones.proofs.index_of.Statement.{statement}
-use Rattle.zones.proofs.index_of.Tie as tie
+use Rattle.home.proofs.lookup.index_of.Statement.{statement}
+use Rattle.home.proofs.lookup.index_of.Tie as tie
 
 abbrev Inv-loop : tie.InvT-loop
-Inv-loop home tag n low₀ high₀ low high = (low ≤ indexOf home tag) × (indexOf home tag ≤ high) × (high ≤ n) × (n ≡ get16 home 0)
+Inv-loop home tag low₀ high₀ low high = (low ≤ indexOf home tag) × (indexOf home tag ≤ high) × (high ≤ get16 home 0)
 
 abbrev μ-loop : tie.MeasureT-loop
-μ-loop home tag n low₀ high₀ low high = high - low
+μ-loop home tag low₀ high₀ low high = high - low
 
 get16-requires : tie.Need-get16-requires Inv-loop μ-loop
 get16-requires c κs = search needs
 
 loop-holds : tie.Need-loop-holds Inv-loop μ-loop
-loop-holds c = (omega arith, rw (c .get16 .ensures .0) (index-most _ _), omega arith, c .get16 .ensures .0)
+loop-holds c = (omega arith, rw (c .get16 .ensures .0) (find-most (c .before .before .args .home .now) (c .before .before .args .tag)), omega arith)
 
 sub-mid : tie.Need-sub-mid Inv-loop μ-loop
 sub-mid c = search needs
@@ -42,17 +42,21 @@ loop-less : tie.Need-loop-less Inv-loop μ-loop
 loop-less c = search needs
 
 loop-again : tie.Need-loop-again Inv-loop μ-loop
-loop-again c = let l = c .before .before .before .loop in
-    let g = index-past (c .before .before .before .before .before .before .args .home .now) (c .before .before .before .before .before .before .args .tag) (l .low + (l .high - l .low) / 2) (c .before .before .before .before .before .before .pre .2) (omega arith) (omega arith) in
-    (omega arith, omega arith, omega arith, l .inv .3)
+loop-again c =
+    let a = c .before .before .before .before .before .before .args in
+    let l = c .before .before .before .loop in
+    let g = find-up (a .home .now) (a .tag) (c .before .before .before .before .before .before .pre) (l .low + (l .high - l .low) / 2) (omega arith) (omega arith) in
+    (omega arith, omega arith, omega arith)
 
 loop-less-2 : tie.Need-loop-less-2 Inv-loop μ-loop
 loop-less-2 c = search needs
 
 loop-again-2 : tie.Need-loop-again-2 Inv-loop μ-loop
-loop-again-2 c = let l = c .before .before .before .loop in
-    let g = index-upto (c .before .before .before .before .before .before .args .home .now) (c .before .before .before .before .before .before .args .tag) (l .low + (l .high - l .low) / 2) (omega arith) (omega arith) in
-    (omega arith, omega arith, omega arith, l .inv .3)
+loop-again-2 c =
+    let a = c .before .before .before .before .before .before .args in
+    let l = c .before .before .before .loop in
+    let g = find-down (a .home .now) (a .tag) (l .low + (l .high - l .low) / 2) (omega arith) (omega arith) in
+    (omega arith, omega arith, omega arith)
 
 returns : tie.Need-returns Inv-loop μ-loop
 returns c = (omega arith, omega arith)
