@@ -95,7 +95,7 @@ unknown-tag h t e f = let s : Sound h = t-sound h .says e in
 
 -- ---- tags rise with their entries' numbers, and there are at most 256
 
-rising-at : (h : List ℕ) (i n a b : ℕ) → Pairs Below (entriesAt h i n) → i ≤ a → a < b → b < i + n → tagAt h a < tagAt h b
+pub rising-at : (h : List ℕ) (i n a b : ℕ) → Pairs Below (entriesAt h i n) → i ≤ a → a < b → b < i + n → tagAt h a < tagAt h b
 unfolding entriesAt
 rising-at h i zero a b p lo m hi = absurd (omega arith)
 rising-at h i (suc n) a b (after x p) lo m hi =

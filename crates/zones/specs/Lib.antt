@@ -14,3 +14,4 @@ pub mod CodeLaws
 pub mod Close
 pub mod CloseLaws
 pub mod SoundLaws
+pub mod Known

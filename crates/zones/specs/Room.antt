@@ -46,6 +46,12 @@ liftTo e f n k = pick (ltb 1 n) (f + n * k) e
 unfoldable pub liftFirst : ℕ → ℕ → ℕ → ℕ → ℕ
 liftFirst e f n k = pick (ltb 1 n) (f + k) e
 
+-- the bytes of a layout that is valid but for its gaps
+pub record Stored (h : List ℕ) : Type 0 where
+  pub pages : pagesOf h ≤ 1024
+  pub bytes : h ≡ encode (pagesOf h) (decode h)
+  pub loose : Loose (pagesOf h) (decode h)
+
 -- the bytes of a layout zs that is valid but for its gaps, below whose zone c a block of that class or a lower one is to be put in, so that e is the lower zones' end
 pub record Ready (R : ℕ) (h : List ℕ) (zs : List Zone) (c e : ℕ) : Type 0 where
   pub pages : R ≤ 1024

@@ -1,42 +1,24 @@
 -- Home's bytes of any zone entries, dictionary and area, and what the moves make of them.
 use mathlib.Core.Path.{_≡_, sym, ap, ap₂, _∙_, subst}
-use mathlib.Core.Logic.{inl, inr}
 use mathlib.Core.List.{List, _∷_, _++_, append-assoc}
-use Prim.Native.Nat.{ℕ, zero, suc, _+_, _*_, _-_, _≤_, _<_}
+use Prim.Native.Nat.{ℕ, suc, _+_, _*_, _-_, _≤_, _<_}
 use native.Mathlib.Omega.{arith}
 use native.Mathlib.Numerals.{add-one}
 use lib.ListN.{length, replicate, length-append}
 use Rattle.wire.specs.Bytes.{part, over, get16, get32, bytes16, bytes32}
 use Rattle.wire.specs.BytesLaws.{length-part, length-over, length-bytes16}
 use Rattle.wire.specs.All.{All, more, all-map}
-use Rattle.wire.specs.Cases.{by-eq}
 use Rattle.home.specs.Capacities.{cells}
 use Rattle.home.specs.Bytes.{Entry, padded, entriesBytes, cellAt}
-use Rattle.home.specs.Checks.{tagAt, placeAt, entriesAt}
-use Rattle.home.specs.Perm.{In, Pairs, after}
-use Rattle.home.specs.PermLaws.{all-in}
+use Rattle.home.specs.Checks.{entriesAt}
+use Rattle.home.specs.Perm.{Pairs}
 use Rattle.home.specs.DictionaryLaws.{Below}
 use Rattle.home.specs.HomeLaws.{length-padded}
 use Rattle.home.specs.Lookup.{Ordered, indexOf}
+use Rattle.home.specs.LookupLaws.{rising-at}
 use Rattle.zones.specs.Moves.{carried, Movable, celled, entered, unentered, zoned, moved}
 use Rattle.zones.specs.JoinLaws.{join, join-length, join-area, join-entry, join-zone, join-count, join-part, join-words, join-tags, join-bears, join-dictionary}
 use Rattle.zones.specs.EntryLaws.{Small, entries-back, rank, rank-entries, rank-at, word, length-word, padded-celled, padded-entered, padded-unentered}
-
--- ---- entries rise
-
-entry-in : (h : List ℕ) (i n j : ℕ) → i ≤ j → j < i + n → In (record { tag = tagAt h j; cell = placeAt h j }) (entriesAt h i n)
-unfolding entriesAt
-entry-in h i zero j lo hi = absurd (omega arith)
-entry-in h i (suc n) j lo hi = by-eq j i (λ e. inl (ap (λ (k : ℕ). record { tag = tagAt h k; cell = placeAt h k }) e)) (λ d. inr (entry-in h (suc i) n j (omega arith) (omega arith)))
-
-rising-at : (h : List ℕ) (i n a b : ℕ) → Pairs Below (entriesAt h i n) → i ≤ a → a < b → b < i + n → tagAt h a < tagAt h b
-unfolding entriesAt
-rising-at h i zero a b p lo m hi = absurd (omega arith)
-rising-at h i (suc n) a b (after x p) lo m hi =
-    by-eq a i
-    (λ e. subst (λ (k : ℕ). tagAt h k < tagAt h b) (sym e)
-    (all-in (Below (record { tag = tagAt h i; cell = placeAt h i })) (record { tag = tagAt h b; cell = placeAt h b }) (entriesAt h (suc i) n) x (entry-in h (suc i) n b (omega arith) (omega arith))))
-    (λ d. rising-at h (suc i) n a b p (omega arith) m (omega arith))
 
 -- ---- zone entries es, dictionary ds, area a
 

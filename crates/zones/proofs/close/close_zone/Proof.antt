@@ -6,8 +6,8 @@ use Rattle.home.specs.CapacitiesLaws.{cells-pos}
 use Rattle.zones.specs.CloseLaws.{zone-none}
 use Rattle.zones.specs.CodeLaws.{end-small, Lowering, open-small, open-long, lower-requires, lower-next, lower-done}
 use borrow.Author.Needs.{needs}
-use Rattle.zones.proofs.close_zone.Statement.{statement}
-use Rattle.zones.proofs.close_zone.Tie as tie
+use Rattle.zones.proofs.close.close_zone.Statement.{statement}
+use Rattle.zones.proofs.close.close_zone.Tie as tie
 
 abbrev Inv-loop : tie.InvT-loop
 Inv-loop home₀ c e n k f₀ home f = Lowering home₀ home c e f n k × (f + n * k < 4294967296) × (0 < k) × (k ≤ 990) × (e ≤ 8192) × (1664 ≤ length home) × (length home ≡ length home₀)

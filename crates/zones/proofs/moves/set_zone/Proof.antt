@@ -1,7 +1,7 @@
 use Rattle.zones.specs.MovesLaws.{zoned-twice}
 use borrow.Author.Needs.{needs}
-use Rattle.zones.proofs.set_zone.Statement.{statement}
-use Rattle.zones.proofs.set_zone.Tie as tie
+use Rattle.zones.proofs.moves.set_zone.Statement.{statement}
+use Rattle.zones.proofs.moves.set_zone.Tie as tie
 
 mul-put16 : tie.Need-mul-put16
 mul-put16 c = search needs

@@ -1,7 +1,7 @@
 use Rattle.zones.specs.Moves.{celled}
 use borrow.Author.Needs.{needs}
-use Rattle.zones.proofs.set_cell.Statement.{statement}
-use Rattle.zones.proofs.set_cell.Tie as tie
+use Rattle.zones.proofs.moves.set_cell.Statement.{statement}
+use Rattle.zones.proofs.moves.set_cell.Tie as tie
 
 mul-put16 : tie.Need-mul-put16
 mul-put16 c = search needs

@@ -4,8 +4,8 @@ use Prim.Native.Nat.{_-_}
 use lib.ListN.{length}
 use Rattle.zones.specs.CodeLaws.{Closing, close-next, close-done}
 use borrow.Author.Needs.{needs}
-use Rattle.zones.proofs.close_up.Statement.{statement}
-use Rattle.zones.proofs.close_up.Tie as tie
+use Rattle.zones.proofs.close.close_up.Statement.{statement}
+use Rattle.zones.proofs.close.close_up.Tie as tie
 
 abbrev Inv-loop : tie.InvT-loop
 Inv-loop home₀ c e d₀ end₀ home d end = Closing home₀ home c e d end × (length home ≡ length home₀)

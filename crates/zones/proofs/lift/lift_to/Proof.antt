@@ -2,8 +2,8 @@ use borrow.Author.Tests.{lt-ltb, le-ltb}
 use native.Mathlib.Omega.{arith}
 use Rattle.zones.specs.Room.{liftTo}
 use borrow.Author.Needs.{needs}
-use Rattle.zones.proofs.lift_to.Statement.{statement}
-use Rattle.zones.proofs.lift_to.Tie as tie
+use Rattle.zones.proofs.lift.lift_to.Statement.{statement}
+use Rattle.zones.proofs.lift.lift_to.Tie as tie
 
 mul-result : tie.Need-mul-result
 mul-result c = search needs

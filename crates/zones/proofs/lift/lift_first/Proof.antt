@@ -2,8 +2,8 @@ use borrow.Author.Tests.{lt-ltb, le-ltb}
 use native.Mathlib.Omega.{arith}
 use Rattle.zones.specs.Room.{liftFirst}
 use borrow.Author.Needs.{needs}
-use Rattle.zones.proofs.lift_first.Statement.{statement}
-use Rattle.zones.proofs.lift_first.Tie as tie
+use Rattle.zones.proofs.lift.lift_first.Statement.{statement}
+use Rattle.zones.proofs.lift.lift_first.Tie as tie
 
 add-result : tie.Need-add-result
 add-result c = search needs

@@ -6,18 +6,18 @@ use borrow.Author.Needs.{needs}
 use native.Mathlib.Omega.{arith}
 use borrow.Fn.Kinds.{In}
 use borrow.Fn.PlainCycle.{Measures, is, falls, and}
-use Rattle.zones.proofs.make_room.Reads as make-room
-use Rattle.zones.proofs.make_room.Kinds as make-room-kinds
-use Rattle.zones.proofs.+make_room.Lts-make_room as make-room-lts
+use Rattle.zones.proofs.lift.make_room.Reads as make-room
+use Rattle.zones.proofs.lift.make_room.Kinds as make-room-kinds
+use Rattle.zones.proofs.lift.+make_room.Lts-make_room as make-room-lts
 use Rattle.home.proofs.lookup.zone_count.Reads as zone-count-reads
 use Rattle.home.proofs.lookup.zone_first.Reads as zone-first-reads
 use Rattle.home.proofs.classes.cells.Reads as cells-reads
-use Rattle.zones.proofs.lift_first.Reads as lift-first-reads
-use Rattle.zones.proofs.lift_to.Reads as lift-to-reads
-use Rattle.zones.proofs.move_block.Reads as move-block-reads
-use Rattle.zones.proofs.set_zone.Reads as set-zone-reads
-use Rattle.zones.proofs.+make_room.{statement}
-use Rattle.zones.proofs.+make_room.Tie.{close}
+use Rattle.zones.proofs.lift.lift_first.Reads as lift-first-reads
+use Rattle.zones.proofs.lift.lift_to.Reads as lift-to-reads
+use Rattle.zones.proofs.moves.move_block.Reads as move-block-reads
+use Rattle.zones.proofs.moves.set_zone.Reads as set-zone-reads
+use Rattle.zones.proofs.lift.+make_room.{statement}
+use Rattle.zones.proofs.lift.+make_room.Tie.{close}
 
 abbrev μ-make-room : Measures 1 make-room-kinds.ps ℕ
 μ-make-room κs a = 30 - a .1 .0

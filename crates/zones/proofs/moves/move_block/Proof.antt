@@ -5,8 +5,8 @@ use lib.ListN.{length}
 use Rattle.home.specs.CapacitiesLaws.{cells-pos}
 use Rattle.zones.specs.MovesLaws.{moved-is}
 use borrow.Author.Needs.{needs}
-use Rattle.zones.proofs.move_block.Statement.{statement}
-use Rattle.zones.proofs.move_block.Tie as tie
+use Rattle.zones.proofs.moves.move_block.Statement.{statement}
+use Rattle.zones.proofs.moves.move_block.Tie as tie
 
 mul-get32 : tie.Need-mul-get32
 mul-get32 c = search needs

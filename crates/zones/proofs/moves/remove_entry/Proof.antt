@@ -1,7 +1,7 @@
 use Rattle.zones.specs.MovesLaws.{unentered-is}
 use borrow.Author.Needs.{needs}
-use Rattle.zones.proofs.remove_entry.Statement.{statement}
-use Rattle.zones.proofs.remove_entry.Tie as tie
+use Rattle.zones.proofs.moves.remove_entry.Statement.{statement}
+use Rattle.zones.proofs.moves.remove_entry.Tie as tie
 
 get16-requires : tie.Need-get16-requires
 get16-requires c κs = search needs

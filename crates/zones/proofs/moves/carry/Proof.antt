@@ -1,8 +1,8 @@
 use native.Mathlib.Omega.{arith}
 use Rattle.zones.specs.MovesLaws.{carried-up, carried-down}
 use borrow.Author.Needs.{needs}
-use Rattle.zones.proofs.carry.Statement.{statement}
-use Rattle.zones.proofs.carry.Tie as tie
+use Rattle.zones.proofs.moves.carry.Statement.{statement}
+use Rattle.zones.proofs.moves.carry.Tie as tie
 
 copy-within-requires : tie.Need-copy-within-requires
 copy-within-requires c κs = search needs

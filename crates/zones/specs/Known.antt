@@ -1,0 +1,30 @@
+-- A tag's block in home.
+use mathlib.Core.Path.{_≡_}
+use mathlib.Core.Bool.{false}
+use mathlib.Core.List.{List, _∷_, _++_}
+use Prim.Native.Nat.{ℕ, _+_, _*_, _≤_}
+use lib.ListN.{length}
+use Rattle.home.specs.Capacities.{cells}
+use Rattle.home.specs.Zones.{Block, Zone, zone, blocks, hasTag}
+use Rattle.home.specs.Bytes.{encode}
+use Rattle.zones.specs.HomeLaws.{Loose}
+
+-- the bytes of a layout zs that is valid but for its gaps, in which tag t has a block of class c at cell p
+pub record Known (R : ℕ) (h : List ℕ) (zs : List Zone) (t c p : ℕ) : Type 0 where
+  pub pages : R ≤ 1024
+  pub bytes : h ≡ encode R zs
+  pub loose : Loose R zs
+  -- the block, those before and behind it in its zone, that zone's first cell, and the lower and higher zones
+  pub lower : List Zone
+  pub first : ℕ
+  pub before : List Block
+  pub block : Block
+  pub behind : List Block
+  pub higher : List Zone
+  pub is : zs ≡ lower ++ zone first (before ++ block ∷ behind) ∷ higher
+  pub class : length lower ≡ c
+  pub cell : first + length before * cells c ≡ p
+  pub tag : block .tag ≡ t
+  -- it is the first one
+  pub none-lower : hasTag t (blocks lower) ≡ false
+  pub none-before : hasTag t before ≡ false
