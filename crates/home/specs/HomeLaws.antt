@@ -95,7 +95,7 @@ blocks-back h c p (x ∷ xs) (more a s) (more b r) = ap₂ {A = Block} {B = List
     (block-back h p c x (drop (cellAt p + 8 * cells c) h) (block-starts h (record { cell = p; class = c; block = x }) b) a)
     (blocks-back h c (p + cells c) xs s r)
 
-zones-back : (n c e : ℕ) (zs : List Zone) (h : List ℕ) → Fit n c e zs → Entries h c zs → All (ReadsAt h) (spots c zs) → zonesFrom h c (length zs) ≡ zs
+pub zones-back : (n c e : ℕ) (zs : List Zone) (h : List ℕ) → Fit n c e zs → Entries h c zs → All (ReadsAt h) (spots c zs) → zonesFrom h c (length zs) ≡ zs
 unfolding zonesFrom zoneAt spots zone blocksAt
 zones-back n c e [] h l d r = refl
 zones-back n c e (empty ∷ zs) h l d r = ap₂ {A = Zone} {B = List Zone} _∷_

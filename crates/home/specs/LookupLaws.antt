@@ -27,7 +27,7 @@ use Rattle.home.specs.PassLaws.{tag-count, home-entries}
 
 -- ---- entries by their number
 
-entry-in : (h : List ℕ) (i n j : ℕ) → i ≤ j → j < i + n → In (record { tag = tagAt h j; cell = placeAt h j }) (entriesAt h i n)
+pub entry-in : (h : List ℕ) (i n j : ℕ) → i ≤ j → j < i + n → In (record { tag = tagAt h j; cell = placeAt h j }) (entriesAt h i n)
 unfolding entriesAt
 entry-in h i zero j lo hi = absurd (omega arith)
 entry-in h i (suc n) j lo hi = by-eq j i (λ e. inl (ap (λ (k : ℕ). record { tag = tagAt h k; cell = placeAt h k }) e)) (λ d. inr (entry-in h (suc i) n j (omega arith) (omega arith)))

@@ -92,7 +92,7 @@ fn less(count: u16) -> u16
 }
 
 // An empty zone has first cell 0.
-fn first_if(first: usize, count: usize) -> usize
+pub fn first_if(first: usize, count: usize) -> usize
     requires { ⌜ first < 65536 ⌝ }
     ensures { λ r. ⌜ r ≡ firstIf first count ⌝ }
     ensures { λ r. ⌜ r < 65536 ⌝ }

@@ -8,17 +8,17 @@ use lib.ListN.{length, drop, take-append-drop, drop-of-length-le, take}
 use borrow.Author.Tests.{le-leb, lt-leb}
 use Rattle.wire.specs.Bytes.{part}
 use Rattle.wire.specs.Cases.{by-lt}
-use Rattle.wire.specs.All.{All, more, all-map, all-head}
+use Rattle.wire.specs.All.{All, all-map, all-head}
 use Rattle.home.specs.Capacities.{cells}
 use Rattle.home.specs.CapacitiesLaws.{cells-pos}
-use Rattle.home.specs.Zones.{Block, Zone, empty, from, zone, lowered, lastOf, initOf, endOf, blocks, close}
+use Rattle.home.specs.Zones.{Block, Zone, empty, from, lowered, lastOf, initOf, endOf, blocks, close}
 use Rattle.home.specs.Perm.{Perm, ptrans}
-use Rattle.home.specs.PermLaws.{psym, pright, protate, pall, all-left, all-right, prefl}
+use Rattle.home.specs.PermLaws.{psym, pright, protate, pall, prefl}
 use Rattle.home.specs.Layout.{Sits, Fit}
-use Rattle.home.specs.Bytes.{Spot, row, spots, dictionary, padded, entries, area, encode, decode, cellAt, blocksAt, firstAt, manyAt, zoneAt, zonesFrom}
+use Rattle.home.specs.Bytes.{Spot, row, spots, dictionary, padded, entries, area, encode, decode, cellAt, firstAt, manyAt, zonesFrom}
 use Rattle.home.specs.Sound.{pagesOf}
 use Rattle.home.specs.AreaLaws.{Good, Reads, spots-good, area-reads}
-use Rattle.home.specs.HomeLaws.{ReadsAt, Entries, block-back, block-starts}
+use Rattle.home.specs.HomeLaws.{zones-back, ReadsAt}
 use Rattle.zones.specs.JoinLaws.{join-part}
 use Rattle.zones.specs.StateLaws.{ld}
 use Rattle.zones.specs.HomeLaws.{Loose, length-zones, fine, encode-state}
@@ -32,33 +32,18 @@ use Rattle.zones.specs.Close.{lowest, zoneOf, lowBytes, lowEnd, Open, cl
 
 -- ---- the layout read back
 
-blocks-back : (h : List ℕ) (c p : ℕ) (xs : List Block) → All (Sits c) xs → All (ReadsAt h) (row c p xs) → blocksAt h c p (length xs) ≡ xs
-unfolding blocksAt row
-blocks-back h c p [] s r = refl
-blocks-back h c p (x ∷ xs) (more a s) (more b r) = ap₂ {A = Block} {B = List Block} _∷_
-    (block-back h p c x (drop (cellAt p + 8 * cells c) h) (block-starts h (record { cell = p; class = c; block = x }) b) a)
-    (blocks-back h c (p + cells c) xs s r)
-
-zones-back : (n c e : ℕ) (zs : List Zone) (h : List ℕ) → Fit n c e zs → Entries h c zs → All (ReadsAt h) (spots c zs) → zonesFrom h c (length zs) ≡ zs
-unfolding zonesFrom zoneAt spots zone blocksAt
-zones-back n c e [] h l d r = refl
-zones-back n c e (empty ∷ zs) h l d r = ap₂ {A = Zone} {B = List Zone} _∷_
-    (ap (λ (m : ℕ). zone (firstAt h c) (blocksAt h c (firstAt h c) m)) (d .1)) (zones-back n (suc c) e zs h l (d .2) r)
-zones-back n c e (from f x xs ∷ zs) h l d r = ap₂ {A = Zone} {B = List Zone} _∷_
-    (ap₂ (λ (g m : ℕ). zone g (blocksAt h c g m)) (d .0) (d .1) ∙ ap (zone f) (blocks-back h c f (x ∷ xs) (l .0 .sit) (all-left (ReadsAt h) (row c f (x ∷ xs)) (spots (suc c) zs) r)))
-    (zones-back n (suc c) (f + suc (length xs) * cells c) zs h (l .1) (d .2) (all-right (ReadsAt h) (row c f (x ∷ xs)) (spots (suc c) zs) r))
-
 module _ (R : ℕ) (small : R ≤ 1024) (zs : List Zone) (v : Loose R zs) where
   part-area : (i n : ℕ) → part (encode R zs) (cellAt i) n ≡ part (area (8 * R) zs) (8 * i) n
   part-area i n = ap (λ (h : List ℕ). part h (cellAt i) n) (encode-state R small zs v)
       ∙ join-part (length (dictionary zs)) (entries zs) (padded (dictionary zs)) (area (8 * R) zs) (length-zones R small zs v)
       (ld (entries zs) (area (8 * R) zs) (length-zones R small zs v) (dictionary zs) (fine R small zs v)) (8 * i) n
 
+  pub reads-loose : All (ReadsAt (encode R zs)) (spots 0 zs)
+  reads-loose = all-map {P = Reads (area (8 * R) zs)} {Q = ReadsAt (encode R zs)} (λ s r. part-area (s .cell) (8 * cells (s .class)) ∙ r) (area-reads (8 * R) zs (v .fit))
+
   pub decode-loose : decode (encode R zs) ≡ zs
   unfolding decode
-  decode-loose = ap (zonesFrom (encode R zs) 0) (sym (v .classes))
-      ∙ zones-back (8 * R) 0 0 zs (encode R zs) (v .fit) (entries-loose R small zs v)
-      (all-map {P = Reads (area (8 * R) zs)} {Q = ReadsAt (encode R zs)} (λ s r. part-area (s .cell) (8 * cells (s .class)) ∙ r) (area-reads (8 * R) zs (v .fit)))
+  decode-loose = ap (zonesFrom (encode R zs) 0) (sym (v .classes)) ∙ zones-back (8 * R) 0 0 zs (encode R zs) (v .fit) (entries-loose R small zs v) reads-loose
 
   pub pages-loose : pagesOf (encode R zs) ≡ R
   pages-loose = omega (arith, length-loose R small zs v)

@@ -75,7 +75,7 @@ enter-rising x (y ∷ ys) (more o os) (after a h) = by-pick (Pairs Below) (ltb (
     let b' : y .tag < x .tag = omega arith in
     after (pall (Below y) (psym (enter-perm x ys)) (more b' a)) (enter-rising x ys os h))
 
-sorted-rising : (xs : List Entry) → Pairs Else xs → Pairs Below (sorted xs)
+pub sorted-rising : (xs : List Entry) → Pairs Else xs → Pairs Below (sorted xs)
 unfolding sorted
 sorted-rising [] h = single
 sorted-rising (x ∷ xs) (after a h) = enter-rising x (sorted xs) (pall (Else x) (psym (perm-sorted xs)) a) (sorted-rising xs h)

@@ -17,12 +17,12 @@ use Rattle.home.specs.Bytes.{Spot, spots, Entry, entryOf, sorted, dictionary, p
 use Rattle.home.specs.BytesLaws.{chop, get32-front}
 use Rattle.home.specs.AreaLaws.{Good, Reads, bytesOf, spots-sit, spots-good, area-reads}
 use Rattle.home.specs.HomeLaws.{get32-at, length-entries, length-dictionary}
-use Rattle.home.specs.DictionaryLaws.{Else, dictionary-rising, dictionary-perm}
-use Rattle.zones.specs.Moves.{carried, zoned, moved, entered, unentered}
+use Rattle.home.specs.DictionaryLaws.{Else, Below, dictionary-rising, dictionary-perm}
+use Rattle.zones.specs.Moves.{Movable, carried, zoned, moved, entered, unentered}
 use Rattle.zones.specs.JoinLaws.{join}
 use Rattle.zones.specs.AreaLaws.{area-gone, area-added, area-moved, area-filled, area-rewritten}
-use Rattle.zones.specs.EntryLaws.{Small, else-sym, sorted-perm, rising-else, Parted, kept, sorted-one}
-use Rattle.zones.specs.StateLaws.{state, Fine, state-zoned, state-written, state-moved, state-entered, state-unentered}
+use Rattle.zones.specs.EntryLaws.{Small, else-sym, sorted-perm, sorted-rising, rising-else, Parted, kept, sorted-one}
+use Rattle.zones.specs.StateLaws.{state, Fine, state-zoned, state-written, state-moved, state-movable, state-entered, state-unentered}
 use Rattle.zones.specs.SpotLaws.{spot}
 
 -- a layout that is valid but for its gaps
@@ -85,6 +85,52 @@ module _ (R : ℕ) (small : R ≤ 1024) (zs : List Zone) (v : Loose R zs) where
       let sit : Sits (s .class) (s .block) = all-head (pall (λ (x : Spot). Sits (x .class) (x .block)) p (spots-sit (8 * R) 0 0 zs (v .fit))) in
       get32-at a (bytesOf s ++ rest) (8 * s .cell) (chop (8 * s .cell) n a ∙ ap (λ (l : List ℕ). l ++ rest) r) ∙ get32-front (s .block .tag) [] (sit .tag)
 
+  -- ---- an entry taken out
+
+  fine-without : (s : Spot) (ss : List Spot) → Perm (spots 0 zs) (s ∷ ss) → Fine (sorted (map entryOf ss))
+  fine-without s ss p =
+      let x : Entry = entryOf s in
+      let t : Parted (x .tag) (sorted (map entryOf ss)) = kept x (map entryOf ss) (others (s ∷ ss) p) in
+      subst Fine (sym (t .is)) (fine-less (t .pre) x (t .post) (subst Fine (dictionary-as (s ∷ ss) p ∙ sorted-one x (map entryOf ss) t) fine))
+
+  pub unentered-state : (s : Spot) (ss : List Spot) → Perm (spots 0 zs) (s ∷ ss) → unentered (encode R zs) (s .block .tag) ≡ state (entries zs) (sorted (map entryOf ss)) (area (8 * R) zs)
+  unentered-state s ss p =
+      let x : Entry = entryOf s in
+      let t : Parted (x .tag) (sorted (map entryOf ss)) = kept x (map entryOf ss) (others (s ∷ ss) p) in
+      let d : dictionary zs ≡ t .pre ++ x ∷ t .post = dictionary-as (s ∷ ss) p ∙ sorted-one x (map entryOf ss) t in
+      ap (λ (h : List ℕ). unentered h (x .tag)) (encode-state ∙ ap (λ (y : List Entry). state (entries zs) y (area (8 * R) zs)) d)
+      ∙ state-unentered (entries zs) length-zones (t .pre) (t .post) (area (8 * R) zs) (x .tag) (t .low) (t .high) x refl (subst Fine d fine)
+      ∙ ap (λ (y : List Entry). state (entries zs) y (area (8 * R) zs)) (sym (t .is))
+
+  -- b's entry is out: y's among the others
+  record Without (n q p : ℕ) (b y : Block) (r : List Spot) : Type 0 where
+    pub parted : Parted (y .tag) (sorted (map entryOf r))
+    pub fine : Fine (parted .pre ++ entryOf (spot n p y) ∷ parted .post)
+    pub rising : Pairs Below (parted .pre ++ entryOf (spot n p y) ∷ parted .post)
+    pub bytes : unentered (encode R zs) (b .tag) ≡ state (entries zs) (parted .pre ++ entryOf (spot n p y) ∷ parted .post) (area (8 * R) zs)
+    pub bears : get32 (area (8 * R) zs) (8 * p) ≡ y .tag
+
+  without : (n q p : ℕ) (b y : Block) (r : List Spot) → Perm (spots 0 zs) (spot n q b ∷ spot n p y ∷ r) → Without n q p b y r
+  without n q p b y r was =
+      let s : Spot = spot n q b in
+      let w : Spot = spot n p y in
+      let o : Pairs Else (map entryOf (w ∷ r)) = pairs-tail Else (entryOf s) (map entryOf (w ∷ r)) (others (s ∷ w ∷ r) was) in
+      let u : Parted (y .tag) (sorted (map entryOf r)) = kept (entryOf w) (map entryOf r) o in
+      let m : sorted (map entryOf (w ∷ r)) ≡ u .pre ++ entryOf w ∷ u .post = sorted-one (entryOf w) (map entryOf r) u in
+      record {
+        parted = u;
+        fine = subst Fine m (fine-without s (w ∷ r) was);
+        rising = subst (Pairs Below) m (sorted-rising (map entryOf (w ∷ r)) o);
+        bytes = unentered-state s (w ∷ r) was ∙ ap (λ (z : List Entry). state (entries zs) z (area (8 * R) zs)) m;
+        bears = area-bears w (s ∷ r) (ptrans was (pswap s w r));
+      }
+
+  pub movable-without : (n q p : ℕ) (b y : Block) (r : List Spot) → Perm (spots 0 zs) (spot n q b ∷ spot n p y ∷ r) → Movable (unentered (encode R zs) (b .tag)) p
+  movable-without n q p b y r was =
+      let m : Without n q p b y r = without n q p b y r was in
+      subst (λ (h : List ℕ). Movable h p) (sym (m .bytes))
+      (state-movable (entries zs) length-zones (m .parted .pre) (m .parted .post) (area (8 * R) zs) (y .tag) (m .parted .low) (m .parted .high) (entryOf (spot n p y)) p refl (m .fine) (m .rising) (m .bears))
+
 -- ---- one block changed, and zone c's entry set
 
 module _ (R : ℕ) (small : R ≤ 1024) (zs zs' : List Zone) (v : Loose R zs) (v' : Loose R zs') where
@@ -141,43 +187,24 @@ module _ (R : ℕ) (small : R ≤ 1024) (zs zs' : List Zone) (v : Loose R zs) (v
         → encode R zs' ≡ zoned (over (unentered (encode R zs) (s .block .tag)) (cellAt (s .cell)) (replicate (8 * cells (s .class)) 0)) c f k
     unfolding dictionary
     home-gone s p =
-        let x : Entry = entryOf s in
-        let xs : List Entry = map entryOf (spots 0 zs') in
         let z : List ℕ = replicate (8 * cells (s .class)) 0 in
-        let t : Parted (x .tag) (sorted xs) = kept x xs (others R small zs v (s ∷ spots 0 zs') p) in
-        let d : dictionary zs ≡ t .pre ++ x ∷ t .post = dictionary-as R small zs v (s ∷ spots 0 zs') p ∙ sorted-one x xs t in
-        let ok : Fine (t .pre ++ x ∷ t .post) = subst Fine d (fine R small zs v) in
-        zone-set (t .pre ++ t .post) (over a (8 * s .cell) z) (t .is) (area-gone (8 * R) zs zs' (v .fit) (v' .fit) s p)
+        zone-set (dictionary zs') (over a (8 * s .cell) z) refl (area-gone (8 * R) zs zs' (v .fit) (v' .fit) s p)
         ∙ ap (λ (h : List ℕ). zoned h c f k)
-        (sym (ap (λ (h : List ℕ). over h (cellAt (s .cell)) z)
-        (ap (λ (h : List ℕ). unentered h (x .tag)) (encode-state R small zs v ∙ ap (λ (y : List Entry). state es y a) d)
-        ∙ state-unentered es le (t .pre) (t .post) a (x .tag) (t .low) (t .high) x refl ok)
-        ∙ state-written es a le (t .pre ++ t .post) (fine-less (t .pre) x (t .post) ok) (s .cell) z))
+        (sym (ap (λ (h : List ℕ). over h (cellAt (s .cell)) z) (unentered-state R small zs v s (spots 0 zs') p)
+        ∙ state-written es a le (dictionary zs') (fine R small zs' v') (s .cell) z))
 
     -- the last block y of class n, at cell p, fills the place q of b
     pub home-filled : (n q p : ℕ) (b y : Block) (r : List Spot) → Perm (spots 0 zs) (spot n q b ∷ spot n p y ∷ r) → Perm (spots 0 zs') (spot n q y ∷ r)
         → encode R zs' ≡ zoned (moved (unentered (encode R zs) (b .tag)) n p q) c f k
     home-filled n q p b y r was is =
-        let x : Entry = entryOf (spot n q b) in
-        let w : Entry = entryOf (spot n p y) in
         let w' : Entry = entryOf (spot n q y) in
-        let xs : List Entry = map entryOf r in
-        let o : Pairs Else (x ∷ w ∷ xs) = others R small zs v (spot n q b ∷ spot n p y ∷ r) was in
-        let t : Parted (x .tag) (sorted (w ∷ xs)) = kept x (w ∷ xs) o in
-        let u : Parted (w .tag) (sorted xs) = kept w xs (pairs-tail Else x (w ∷ xs) o) in
-        let d : dictionary zs ≡ t .pre ++ x ∷ t .post = dictionary-as R small zs v (spot n q b ∷ spot n p y ∷ r) was ∙ sorted-one x (w ∷ xs) t in
-        let m : t .pre ++ t .post ≡ u .pre ++ w ∷ u .post = sym (t .is) ∙ sorted-one w xs u in
-        let d' : dictionary zs' ≡ u .pre ++ w' ∷ u .post = dictionary-as R small zs' v' (spot n q y ∷ r) is ∙ sorted-one w' xs u in
-        let ok : Fine (t .pre ++ x ∷ t .post) = subst Fine d (fine R small zs v) in
-        let ok' : Fine (u .pre ++ w ∷ u .post) = subst Fine m (fine-less (t .pre) x (t .post) ok) in
-        zone-set (u .pre ++ w' ∷ u .post) (carried a (8 * p) (8 * q) (8 * cells n)) d' (area-filled (8 * R) zs zs' (v .fit) (v' .fit) n q p b y r was is)
+        let m : Without R small zs v n q p b y r = without R small zs v n q p b y r was in
+        let ds : List Entry = m .parted .pre ++ w' ∷ m .parted .post in
+        zone-set ds (carried a (8 * p) (8 * q) (8 * cells n)) (dictionary-as R small zs' v' (spot n q y ∷ r) is ∙ sorted-one w' (map entryOf r) (m .parted))
+        (area-filled (8 * R) zs zs' (v .fit) (v' .fit) n q p b y r was is)
         ∙ ap (λ (h : List ℕ). zoned h c f k)
-        (sym (ap (λ (h : List ℕ). moved h n p q)
-        (ap (λ (h : List ℕ). unentered h (x .tag)) (encode-state R small zs v ∙ ap (λ (z : List Entry). state es z a) d)
-        ∙ state-unentered es le (t .pre) (t .post) a (x .tag) (t .low) (t .high) x refl ok
-        ∙ ap (λ (z : List Entry). state es z a) m)
-        ∙ state-moved es le (u .pre) (u .post) a (w .tag) (u .low) (u .high) w n p q refl ok'
-        (area-bears R small zs v (spot n p y) (spot n q b ∷ r) (ptrans was (pswap (spot n q b) (spot n p y) r)))))
+        (sym (ap (λ (h : List ℕ). moved h n p q) (m .bytes)
+        ∙ state-moved es le (m .parted .pre) (m .parted .post) a (y .tag) (m .parted .low) (m .parted .high) (entryOf (spot n p y)) n p q refl (m .fine) (m .bears)))
 
   -- another list in the block of class n at cell p
   pub home-rewritten : (n p : ℕ) (b b' : Block) (ss : List Spot) → b .tag ≡ b' .tag → entries zs ≡ entries zs' → Perm (spots 0 zs) (spot n p b ∷ ss) → Perm (spots 0 zs') (spot n p b' ∷ ss)

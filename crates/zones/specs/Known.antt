@@ -2,12 +2,13 @@
 use mathlib.Core.Path.{_≡_}
 use mathlib.Core.Bool.{false}
 use mathlib.Core.List.{List, _∷_, _++_}
-use Prim.Native.Nat.{ℕ, _+_, _*_, _≤_}
-use lib.ListN.{length}
+use Prim.Native.Nat.{ℕ, suc, _+_, _*_, _≤_}
+use lib.ListN.{length, take, drop}
 use Rattle.home.specs.Capacities.{cells}
-use Rattle.home.specs.Zones.{Block, Zone, zone, blocks, hasTag}
+use Rattle.home.specs.Zones.{Block, Zone, empty, from, zone, blocks, hasTag, removed}
 use Rattle.home.specs.Bytes.{encode}
 use Rattle.zones.specs.HomeLaws.{Loose}
+use Rattle.zones.specs.Close.{zoneOf}
 
 -- the bytes of a layout zs that is valid but for its gaps, in which tag t has a block of class c at cell p
 pub record Known (R : ℕ) (h : List ℕ) (zs : List Zone) (t c p : ℕ) : Type 0 where
@@ -28,3 +29,14 @@ pub record Known (R : ℕ) (h : List ℕ) (zs : List Zone) (t c p : ℕ) : Type 
   -- it is the first one
   pub none-lower : hasTag t (blocks lower) ≡ false
   pub none-before : hasTag t before ≡ false
+
+-- a zone without tag t's block
+unfoldable pub lacking : ℕ → Zone → Zone
+unfolding removed zone
+lacking t empty = empty
+lacking t (from f x xs) = zone f (removed t (x ∷ xs))
+
+-- home with that zone c: its gaps are not closed yet
+unfoldable pub outBytes : ℕ → List Zone → ℕ → ℕ → List ℕ
+unfolding lacking
+outBytes R zs t c = encode R (take c zs ++ lacking t (zoneOf zs c) ∷ drop (suc c) zs)

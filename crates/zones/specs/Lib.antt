@@ -15,3 +15,6 @@ pub mod Close
 pub mod CloseLaws
 pub mod SoundLaws
 pub mod Known
+pub mod KnownLaws
+pub mod BlockLaws
+pub mod OutLaws

@@ -86,7 +86,7 @@ fit-joined n c e k [] hs hs' q h h' = let p : k ≡ c = omega arith in subst (λ
 fit-joined n c e k (empty ∷ ls) hs hs' q h h' = fit-joined n (suc c) e k ls hs hs' (omega arith) h h'
 fit-joined n c e k (from f x xs ∷ ls) hs hs' q h h' = (h .0, fit-joined n (suc c) (f + suc (length xs) * cells c) k ls hs hs' (omega arith) (h .1) h')
 
-blocks-append : (ls hs : List Zone) → blocks (ls ++ hs) ≡ blocks ls ++ blocks hs
+pub blocks-append : (ls hs : List Zone) → blocks (ls ++ hs) ≡ blocks ls ++ blocks hs
 unfolding blocks
 blocks-append [] hs = refl
 blocks-append (empty ∷ ls) hs = blocks-append ls hs

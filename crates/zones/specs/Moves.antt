@@ -1,8 +1,9 @@
 -- What the moves of blocks do to the bytes of home.
 use mathlib.Core.List.{List, _++_}
 use Prim.Native.Nat.{ℕ, _+_, _*_, _-_, _<_}
+use lib.Dec.{ltb}
 use lib.ListN.{replicate}
-use Rattle.wire.specs.Bytes.{part, over, get16, get32, bytes16, bytes32}
+use Rattle.wire.specs.Bytes.{pick, part, over, get16, get32, bytes16, bytes32}
 use Rattle.home.specs.Capacities.{cells}
 use Rattle.home.specs.Bytes.{cellAt, entryAt}
 use Rattle.home.specs.Lookup.{Ordered, indexOf}
@@ -58,3 +59,8 @@ pub record Movable (h : List ℕ) (p : ℕ) : Type 0 where
 unfoldable pub moved : List ℕ → ℕ → ℕ → ℕ → List ℕ
 unfolding carried celled
 moved h c p q = celled (carried h (cellAt p) (cellAt q) (8 * cells c)) (indexOf h (get32 h (cellAt p))) q
+
+-- the place of the block of class c at cell p, filled by the zone's last one, or zero if it is that one
+unfoldable pub filled : List ℕ → ℕ → ℕ → ℕ → List ℕ
+unfolding moved
+filled h c last p = pick (ltb p last) (moved h c last p) (over h (cellAt p) (replicate (8 * cells c) 0))

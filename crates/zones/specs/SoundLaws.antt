@@ -22,12 +22,12 @@ module _ (h : List ℕ) (t : sound h ≡ true) where
   abbrev s : Sound h
   s = t-sound h .says t
 
-  pages : pagesOf h ≤ 1024
-  pages = let p : pagesOf h ≡ s .pages = sound-pages h s in omega (arith, s .high)
+  pub sound-small : pagesOf h ≤ 1024
+  sound-small = let p : pagesOf h ≡ s .pages = sound-pages h s in omega (arith, s .high)
 
   pub sound-loose : Loose (pagesOf h) (decode h)
   sound-loose = subst (λ (R : ℕ). Loose R (decode h)) (sym (sound-pages h s)) (subst (λ (zs : List Zone). Loose (s .pages) zs) (sym (sound-zones h s)) (valid-loose (s .pages) (s .zones) (s .valid)))
 
   -- a block of class c or a lower one is put in below zone c
   pub sound-ready : (c e : ℕ) → c ≤ 30 → endAfter 0 0 (take c (decode h)) ≤ e → e ≤ endAfter 0 0 (take c (decode h)) + cells c → Ready (pagesOf h) h (decode h) c e
-  sound-ready c e g lo hi = record { pages = pages; bytes = sym (encode-decode h t); loose = sound-loose; class = g; low = lo; high = hi }
+  sound-ready c e g lo hi = record { pages = sound-small; bytes = sym (encode-decode h t); loose = sound-loose; class = g; low = lo; high = hi }

@@ -127,18 +127,18 @@ module _ (R : ℕ) (small : R ≤ 1024) (ls : List Zone) where
   zone-spots f [] hs = refl
   zone-spots f (x ∷ xs) hs = refl
 
-  many-zone : (f : ℕ) (bs : List Block) → manyOf (zone f bs) ≡ length bs
+  pub many-zone : (f : ℕ) (bs : List Block) → manyOf (zone f bs) ≡ length bs
   unfolding manyOf zone
   many-zone f [] = refl
   many-zone f (x ∷ xs) = refl
 
-  first-zone : (f : ℕ) (pre : List Block) (b : Block) (post : List Block) → firstOf (zone f (pre ++ b ∷ post)) ≡ f
+  pub first-zone : (f : ℕ) (pre : List Block) (b : Block) (post : List Block) → firstOf (zone f (pre ++ b ∷ post)) ≡ f
   unfolding firstOf zone
   first-zone f [] b post = refl
   first-zone f (x ∷ pre) b post = refl
 
   -- a spot of this zone's row among all
-  in-zone : (f : ℕ) (bs : List Block) (hs : List Zone) (s : Spot) (rs : List Spot) → Perm (row c f bs) (s ∷ rs) → Perm (spots 0 (ls ++ zone f bs ∷ hs)) (s ∷ (spots 0 ls ++ (rs ++ spots (suc c) hs)))
+  pub in-zone : (f : ℕ) (bs : List Block) (hs : List Zone) (s : Spot) (rs : List Spot) → Perm (row c f bs) (s ∷ rs) → Perm (spots 0 (ls ++ zone f bs ∷ hs)) (s ∷ (spots 0 ls ++ (rs ++ spots (suc c) hs)))
   in-zone f bs hs s rs p =
       in-context ls (zone f bs ∷ hs) s (rs ++ spots (suc c) hs)
       (subst (λ (l : List Spot). Perm l (s ∷ (rs ++ spots (suc c) hs))) (sym (zone-spots f bs hs)) (pright (spots (suc c) hs) p))
@@ -159,7 +159,18 @@ module _ (R : ℕ) (small : R ≤ 1024) (ls : List Zone) where
       ∙ ap (λ (l : List Spot). spots 0 ls ++ l) (sym (zone-spots f pre hs)) ∙ sym (spots-in ls (zone f pre ∷ hs)))
       (in-zone f (pre ++ b ∷ []) hs s (row c f pre ++ row c (q + cells c) []) (gone-before c f pre b [])))
 
-  -- the last of those behind it fills its place
+  -- the last of those behind it, and the others
+  pub fill-spots : (f : ℕ) (pre : List Block) (b y : Block) (ys : List Block) (hs : List Zone)
+      → Perm (spots 0 (ls ++ zone f (pre ++ b ∷ y ∷ ys) ∷ hs))
+      (spot c (f + length pre * cells c) b ∷ spot c (f + length pre * cells c + cells c + length ys * cells c) (lastOf y ys)
+      ∷ (spots 0 ls ++ ((row c f pre ++ row c (f + length pre * cells c + cells c) (initOf y ys)) ++ spots (suc c) hs)))
+  fill-spots f pre b y ys hs =
+      let q : ℕ = f + length pre * cells c in
+      let w : Spot = spot c (q + cells c + length ys * cells c) (lastOf y ys) in
+      let r : List Spot = row c f pre ++ row c (q + cells c) (initOf y ys) in
+      ptrans (in-zone f (pre ++ b ∷ y ∷ ys) hs (spot c q b) (w ∷ r) (fill-before c f pre b y ys)) (pskip (spot c q b) (pfront w (spots 0 ls) (r ++ spots (suc c) hs)))
+
+  -- it fills its place
   pub home-place-filled : (f : ℕ) (pre : List Block) (b y : Block) (ys : List Block) (hs : List Zone)
       → Loose R (ls ++ zone f (pre ++ b ∷ y ∷ ys) ∷ hs) → Loose R (ls ++ zone f (pre ++ turned (y ∷ ys)) ∷ hs)
       → encode R (ls ++ zone f (pre ++ turned (y ∷ ys)) ∷ hs)
@@ -167,7 +178,6 @@ module _ (R : ℕ) (small : R ≤ 1024) (ls : List Zone) where
   unfolding turned
   home-place-filled f pre b y ys hs v v' =
       let q : ℕ = f + length pre * cells c in
-      let p : ℕ = q + cells c + length ys * cells c in
       let w : Block = lastOf y ys in
       let r : List Spot = row c f pre ++ row c (q + cells c) (initOf y ys) in
       let bs : List Block = pre ++ b ∷ y ∷ ys in
@@ -175,9 +185,8 @@ module _ (R : ℕ) (small : R ≤ 1024) (ls : List Zone) where
       home-filled R small (ls ++ zone f bs ∷ hs) (ls ++ zone f bs' ∷ hs) v v' c f (length pre + suc (length ys)) (class-below ls (zone f bs) hs (v .classes))
       (zone-set ls (zone f bs) (zone f bs') hs f (length pre + suc (length ys)) (first-zone f pre w (initOf y ys))
       (many-zone f bs' ∙ length-append pre (w ∷ initOf y ys) ∙ ap (λ (k : ℕ). length pre + suc k) (length-init y ys)))
-      c q p b w (spots 0 ls ++ (r ++ spots (suc c) hs))
-      (ptrans (in-zone f bs hs (spot c q b) (spot c p w ∷ r) (fill-before c f pre b y ys))
-      (pskip (spot c q b) (pfront (spot c p w) (spots 0 ls) (r ++ spots (suc c) hs))))
+      c q (q + cells c + length ys * cells c) b w (spots 0 ls ++ (r ++ spots (suc c) hs))
+      (fill-spots f pre b y ys hs)
       (in-zone f bs' hs (spot c q w) r (fill-after c f pre y ys))
 
   -- another list of the same tag in its block

@@ -2,3 +2,4 @@
 mod close;
 mod lift;
 mod moves;
+mod take;

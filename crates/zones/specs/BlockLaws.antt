@@ -1,0 +1,163 @@
+-- A tag's block in a sound home: found by the dictionary, and its bytes.
+use mathlib.Core.Path.{_≡_, refl, sym, ap, _∙_, subst}
+use mathlib.Core.Bool.{true}
+use mathlib.Core.Logic.{inl, inr}
+use mathlib.Core.List.{List, [], _∷_, _++_, map}
+use Prim.Native.Nat.{ℕ, suc, _+_, _*_, _≤_, _<_}
+use native.Mathlib.Omega.{arith}
+use lib.ListN.{length, drop}
+use Rattle.wire.specs.Bytes.{part, get16, get32}
+use Rattle.wire.specs.All.{All, all-head}
+use Rattle.home.specs.Capacities.{cells, classOf}
+use Rattle.home.specs.Zones.{Block, Zone, zone, blocks, hasTag}
+use Rattle.home.specs.Perm.{Perm, In, Pairs, after}
+use Rattle.home.specs.PermLaws.{prefl, psym, pall, pin, all-in, in-map, map-in}
+use Rattle.home.specs.Layout.{Sits}
+use Rattle.home.specs.FindLaws.{by-tag, has-here, has-skip}
+use Rattle.home.specs.Bytes.{Spot, row, spots, Entry, entryOf, dictionary, entries, area, blockBytes, cellAt, countAt, encode, decode}
+use Rattle.home.specs.AreaLaws.{Good, spots-sit, spots-good}
+use Rattle.home.specs.HomeLaws.{ReadsAt, block-tag, block-count, block-starts}
+use Rattle.home.specs.DictionaryLaws.{Else, spots-blocks, dictionary-perm}
+use Rattle.home.specs.Sound.{sound, pagesOf}
+use Rattle.home.specs.SoundLaws.{encode-decode}
+use Rattle.home.specs.Checks.{tagAt, placeAt, entriesAt}
+use Rattle.home.specs.declared.lookup.Slot.the-variants.{At}
+use Rattle.home.specs.Lookup.{slotOf}
+use Rattle.home.specs.LookupLaws.{entry-in}
+use Rattle.home.specs.LookupTurns.{sound-ordered, slot-at}
+use Rattle.zones.specs.SpotLaws.{spot, gone-before}
+use Rattle.zones.specs.HomeLaws.{Loose, length-zones, fine, encode-state, others}
+use Rattle.zones.specs.StateLaws.{state-entries}
+use Rattle.zones.specs.StepLaws.{in-zone}
+use Rattle.zones.specs.LooseLaws.{length-loose}
+use Rattle.zones.specs.CloseLaws.{reads-loose}
+use Rattle.zones.specs.SoundLaws.{sound-small, sound-loose}
+use Rattle.zones.specs.Known.{Known}
+use Rattle.zones.specs.KnownLaws.{Located, located}
+
+-- ---- a block that lies in home's bytes
+
+pub record Lying (h : List ℕ) (c p : ℕ) (b : Block) : Type 0 where
+  pub sits : Sits c b
+  pub inside : cellAt p + 8 * cells c ≤ length h
+  pub bytes : part h (cellAt p) (8 * cells c) ≡ blockBytes c b
+  pub tag : get32 h (cellAt p) ≡ b .tag
+  pub count : countAt h p ≡ length (b .list)
+
+module _ (R : ℕ) (small : R ≤ 1024) (zs : List Zone) (v : Loose R zs) where
+  pub lying : (s : Spot) (ss : List Spot) → Perm (spots 0 zs) (s ∷ ss) → Lying (encode R zs) (s .class) (s .cell) (s .block)
+  lying s ss p =
+      let sit : Sits (s .class) (s .block) = all-head (pall (λ (x : Spot). Sits (x .class) (x .block)) p (spots-sit (8 * R) 0 0 zs (v .fit))) in
+      let good : Good (8 * R) s = all-head (pall (Good (8 * R)) p (spots-good (8 * R) 0 0 zs (v .fit))) in
+      let rest : List ℕ = drop (cellAt (s .cell) + 8 * cells (s .class)) (encode R zs) in
+      let reads : ReadsAt (encode R zs) s = all-head (pall (ReadsAt (encode R zs)) p (reads-loose R small zs v)) in
+      record {
+        sits = sit;
+        inside = omega (arith, good .inside, length-loose R small zs v);
+        bytes = reads;
+        tag = block-tag (encode R zs) (s .cell) (s .class) (s .block) rest (block-starts (encode R zs) s reads) sit;
+        count = block-count (encode R zs) (s .cell) (s .class) (s .block) rest (block-starts (encode R zs) s reads) sit;
+      }
+
+spots-of : (R : ℕ) (small : R ≤ 1024) (zs ls : List Zone) (f : ℕ) (pre : List Block) (b : Block) (post : List Block) (hs : List Zone) (c p : ℕ)
+    → zs ≡ ls ++ zone f (pre ++ b ∷ post) ∷ hs → length ls ≡ c → f + length pre * cells c ≡ p
+    → Perm (spots 0 zs) (spot c p b ∷ (spots 0 ls ++ ((row c f pre ++ row c (p + cells c) post) ++ spots (suc c) hs)))
+spots-of R small zs ls f pre b post hs c p is class cell =
+    rw (is, ← cell, ← class) (in-zone R small ls f (pre ++ b ∷ post) hs (spot (length ls) (f + length pre * cells (length ls)) b)
+    (row (length ls) f pre ++ row (length ls) (f + length pre * cells (length ls) + cells (length ls)) post) (gone-before (length ls) f pre b post))
+
+-- a tag's block, and the others
+module _ (R : ℕ) (h : List ℕ) (zs : List Zone) (t c p : ℕ) (k : Known R h zs t c p) where
+  pub others-of : List Spot
+  others-of = spots 0 (k .lower) ++ ((row c (k .first) (k .before) ++ row c (p + cells c) (k .behind)) ++ spots (suc c) (k .higher))
+
+  pub known-spots : Perm (spots 0 zs) (spot c p (k .block) ∷ others-of)
+  unfolding others-of
+  known-spots = spots-of R (k .pages) zs (k .lower) (k .first) (k .before) (k .block) (k .behind) (k .higher) c p (k .is) (k .class) (k .cell)
+
+  pub known-lying : Lying h c p (k .block)
+  known-lying = subst (λ (l : List ℕ). Lying l c p (k .block)) (sym (k .bytes)) (lying R (k .pages) zs (k .loose) (spot c p (k .block)) others-of known-spots)
+
+-- ---- found by the dictionary
+
+-- entries with the same tag are the same
+same-entry : (ds : List Entry) (x y : Entry) → Pairs Else ds → In x ds → In y ds → x .tag ≡ y .tag → x ≡ y
+same-entry [] x y p i j e = absurd i
+same-entry (d ∷ ds) x y (after a p) (inl i) (inl j) e = i ∙ sym j
+same-entry (d ∷ ds) x y (after a p) (inl i) (inr j) e = absurd (all-in (Else d) y ds a j (ap (λ (z : Entry). z .tag) (sym i) ∙ e))
+same-entry (d ∷ ds) x y (after a p) (inr i) (inl j) e = absurd (all-in (Else d) x ds a i (ap (λ (z : Entry). z .tag) (sym j) ∙ sym e))
+same-entry (d ∷ ds) x y (after a p) (inr i) (inr j) e = same-entry ds x y p i j e
+
+in-has : (t : ℕ) (b : Block) (bs : List Block) → In b bs → b .tag ≡ t → hasTag t bs ≡ true
+in-has t b [] i e = absurd i
+in-has t b (x ∷ xs) (inl i) e = has-here t x xs (ap (λ (y : Block). y .tag) (sym i) ∙ e)
+in-has t b (x ∷ xs) (inr i) e = by-tag t x (λ q. has-here t x xs q) (λ n. has-skip t x xs n ∙ in-has t b xs i e)
+
+module _ (h : List ℕ) (s : sound h ≡ true) where
+  abbrev R : ℕ
+  R = pagesOf h
+
+  abbrev zs : List Zone
+  zs = decode h
+
+  is : h ≡ encode R zs
+  is = sym (encode-decode h s)
+
+  entries-of : entriesAt h 0 (get16 h 0) ≡ dictionary zs
+  entries-of =
+      let v : Loose R zs = sound-loose h s in
+      subst (λ (l : List ℕ). entriesAt l 0 (get16 l 0) ≡ dictionary zs) (sym (is ∙ encode-state R (sound-small h s) zs v))
+      (state-entries (entries zs) (area (8 * R) zs) (length-zones R (sound-small h s) zs v) (dictionary zs) (fine R (sound-small h s) zs v))
+
+  -- the block to which an entry leads is the first one with its tag
+  module _ (t i : ℕ) (e : slotOf h t ≡ At i) where
+    abbrev p : ℕ
+    p = placeAt h i
+
+    abbrev d : Entry
+    d = record { tag = tagAt h i; cell = p }
+
+    led : In d (map entryOf (spots 0 zs))
+    led = pin d (dictionary-perm zs) (subst (In d) entries-of (entry-in h 0 (get16 h 0) i (omega arith) (omega (arith, slot-at h t i (sound-ordered h s) e .0))))
+
+    tagged : tagAt h i ≡ t
+    tagged = slot-at h t i (sound-ordered h s) e .1
+
+    pub slot-has : hasTag t (blocks zs) ≡ true
+    slot-has =
+        let m = in-map entryOf d (spots 0 zs) led in
+        in-has t (m .0 .block) (blocks zs) (subst (In (m .0 .block)) (spots-blocks 0 zs) (map-in (λ (x : Spot). x .block) (m .0) (spots 0 zs) (m .1)))
+        (ap (λ (x : Entry). x .tag) (sym (m .2)) ∙ tagged)
+
+    known-at : (k : Located t zs) → Known R h zs t (length (k .lower)) p
+    known-at k =
+        let c : ℕ = length (k .lower) in
+        let q : ℕ = k .first + length (k .before) * cells c in
+        let sp : Spot = spot c q (k .block) in
+        let perm = spots-of R (sound-small h s) zs (k .lower) (k .first) (k .before) (k .block) (k .behind) (k .higher) c q (k .is) refl refl in
+        let same : d ≡ entryOf sp = same-entry (map entryOf (spots 0 zs)) d (entryOf sp) (others R (sound-small h s) zs (sound-loose h s) (spots 0 zs) (prefl (spots 0 zs)))
+        led (map-in entryOf sp (spots 0 zs) (pin sp (psym perm) (inl refl))) (tagged ∙ sym (k .tag)) in
+        record {
+          pages = sound-small h s;
+          bytes = is;
+          loose = sound-loose h s;
+          lower = k .lower;
+          first = k .first;
+          before = k .before;
+          block = k .block;
+          behind = k .behind;
+          higher = k .higher;
+          is = k .is;
+          class = refl;
+          cell = ap (λ (x : Entry). x .cell) (sym same);
+          tag = k .tag;
+          none-lower = k .none-lower;
+          none-before = k .none-before;
+        }
+
+    pub slot-known : Known R h zs t (classOf (countAt h p)) p
+    slot-known =
+        let k : Located t zs = located t zs slot-has in
+        let w : Known R h zs t (length (k .lower)) p = known-at k in
+        let l : Lying h (length (k .lower)) p (w .block) = known-lying R h zs t (length (k .lower)) p w in
+        subst (λ (c : ℕ). Known R h zs t c p) (sym (ap classOf (l .count) ∙ l .sits .class)) w

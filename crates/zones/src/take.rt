@@ -1,0 +1,41 @@
+// A block taken out.
+use crate::moves::move_block;
+use crate::moves::remove_entry;
+use crate::moves::set_zone;
+use home::classes::cells;
+use home::lookup::zone_count;
+use home::lookup::zone_first;
+use room::first_if;
+ghost use mathlib.Core.Path.{_≡_};
+ghost use Prim.Native.Nat.{_+_, _*_, _≤_, _<_};
+ghost use lib.ListN.{length};
+ghost use Rattle.home.specs.Capacities.{cells as sizeOf};
+ghost use Rattle.home.specs.Bytes.{cellAt, decode};
+ghost use Rattle.home.specs.Sound.{pagesOf};
+ghost use Rattle.zones.specs.Moves.{Movable, filled};
+ghost use Rattle.zones.specs.Known.{Known, outBytes};
+
+// The place of a block of class c that is taken out: the zone's last block fills it, or it becomes zero if it is that one.
+fn fill_place(home: &mut [u8], c: usize, last: usize, p: usize)
+    requires { ⌜ (c < 30) × (cellAt p + 8 * sizeOf c ≤ length (now home)) × (cellAt last + 8 * sizeOf c ≤ length (now home)) ⌝ }
+    requires { ⌜ (p < last → Movable (now home) last) ⌝ }
+    ensures { λ _. ⌜ now (home .exit) ≡ filled (now (home .entry)) c last p ⌝ }
+{
+    if p < last {
+        move_block(home, c, last, p);
+    } else {
+        wire::fill(home, 1664 + 8 * p, 8 * cells(c), 0);
+    }
+}
+
+// Takes the tag's block of class c at cell p out of its zone.
+fn remove_block(home: &mut [u8], tag: u32, c: usize, p: usize)
+    requires { ⌜ Known (pagesOf (now home)) (now home) (decode (now home)) tag c p ⌝ }
+    ensures { λ _. ⌜ now (home .exit) ≡ outBytes (pagesOf (now (home .entry))) (decode (now (home .entry))) tag c ⌝ }
+{
+    let f = zone_first(home, c);
+    let n = zone_count(home, c) - 1;
+    remove_entry(home, tag);
+    fill_place(home, c, f + n * cells(c), p);
+    set_zone(home, c, first_if(f, n), n);
+}
