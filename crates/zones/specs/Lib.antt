@@ -18,3 +18,5 @@ pub mod Known
 pub mod KnownLaws
 pub mod BlockLaws
 pub mod OutLaws
+pub mod Place
+pub mod PlaceLaws

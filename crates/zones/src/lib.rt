@@ -3,3 +3,4 @@ mod close;
 mod lift;
 mod moves;
 mod take;
+mod place;

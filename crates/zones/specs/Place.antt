@@ -1,0 +1,2 @@
+-- A block placed: what it needs, and the bytes afterwards.
+use Prim.Native.Nat.{ℕ}
