@@ -2,18 +2,24 @@
 use mathlib.Core.Path.{_≡_, refl, sym, ap, ap₂, _∙_, subst}
 use mathlib.Core.Bool.{true, false}
 use mathlib.Core.List.{List, [], _∷_, _++_}
-use Prim.Native.Nat.{ℕ, zero, suc, _+_, _*_, _-_, _≤_, _<_}
+use Prim.Native.Nat.{ℕ, zero, suc, _+_, _*_, _-_, _/_, _≤_, _<_}
 use native.Mathlib.Omega.{arith}
-use lib.ListN.{length, take, getD}
-use Rattle.home.specs.Capacities.{cells}
+use lib.ListN.{length, take, getD, replicate}
+use Rattle.wire.specs.Bytes.{over, bytes16, bytes32}
+use Rattle.wire.specs.BytesLaws.{over-append}
+use Rattle.records.specs.declared.Record.{Record}
+use Rattle.records.specs.Records.{encode as recordBytes}
+use Rattle.records.specs.Edits.{length-encode}
+use Rattle.home.specs.Capacities.{capacity, cells}
 use Rattle.home.specs.Zones.{Zone, empty, from, endOf}
-use Rattle.home.specs.Bytes.{encode, decode, firstAt, manyAt}
+use Rattle.home.specs.Bytes.{encode, decode, firstAt, manyAt, blockBytes}
 use Rattle.home.specs.Sound.{pagesOf}
 use Rattle.zones.specs.StepLaws.{firstOf, manyOf}
 use Rattle.zones.specs.Room.{endAfter, Stored}
 use Rattle.zones.specs.LooseLaws.{zone-at, length-loose}
 use Rattle.zones.specs.RoomLaws.{at-zone, take-here, take-next, zone-here, end-next}
 use Rattle.zones.specs.CodeLaws.{open-small}
+use Rattle.zones.specs.Place.{blockOf}
 
 -- ---- where the zones below a class end
 
@@ -82,3 +88,28 @@ module _ (h : List ℕ) (c d : ℕ) (s : Seeking h c d) where
   pub seek-done : d ≤ 0 → (0 ≡ endAfter 0 0 (take c (decode h))) × (0 ≤ 8192)
   unfolding endAfter
   seek-done p = let e : 0 ≡ d = omega arith in (ap (λ (k : ℕ). endAfter 0 0 (take k (decode h))) e ∙ s .same, omega arith)
+
+-- ---- a whole block
+
+-- bytes written behind others
+over-next : (l : List ℕ) (at k : ℕ) (bs cs : List ℕ) → k ≡ at + length bs → over (over l at bs) k cs ≡ over l at (bs ++ cs)
+over-next l at k bs cs e = ap (λ (j : ℕ). over (over l at bs) j cs) e ∙ over-append l at bs cs
+
+pub block-written : (h : List ℕ) (at c t k : ℕ) (bs : List ℕ) → k ≡ cells c
+    → over (over (over (over (over h at (bytes32 t)) (at + 4) (bytes16 (length bs / 8))) (at + 6) (bytes16 0)) (at + 8) bs) (at + 8 + length bs) (replicate (8 * k - 8 - length bs) 0) ≡ over h at (blockOf c t bs)
+unfolding blockOf bytes16 bytes32
+block-written h at c t k bs e =
+    let n : ℕ = length bs / 8 in
+    let z : List ℕ = replicate (8 * k - 8 - length bs) 0 in
+    ap (λ (l : List ℕ). over (over (over l (at + 6) (bytes16 0)) (at + 8) bs) (at + 8 + length bs) z) (over-next h at (at + 4) (bytes32 t) (bytes16 n) (omega arith))
+    ∙ ap (λ (l : List ℕ). over (over l (at + 8) bs) (at + 8 + length bs) z) (over-next h at (at + 6) (bytes32 t ++ bytes16 n) (bytes16 0) (omega arith))
+    ∙ ap (λ (l : List ℕ). over l (at + 8 + length bs) z) (over-next h at (at + 8) ((bytes32 t ++ bytes16 n) ++ bytes16 0) bs (omega arith))
+    ∙ over-next h at (at + 8 + length bs) (((bytes32 t ++ bytes16 n) ++ bytes16 0) ++ bs) z (omega arith)
+    ∙ ap (λ (j : ℕ). over h at (bytes32 t ++ (bytes16 n ++ (0 ∷ 0 ∷ (bs ++ replicate (8 * j - 8 - length bs) 0))))) e
+
+pub block-is : (c t : ℕ) (rs : List Record) → length rs ≤ capacity c → blockOf c t (recordBytes rs) ≡ blockBytes c (record { tag = t; list = rs })
+unfolding blockOf blockBytes cells
+block-is c t rs g =
+    let a : length (recordBytes rs) / 8 ≡ length rs = omega (arith, length-encode rs) in
+    let b : 8 * cells c - 8 - length (recordBytes rs) ≡ 8 * (capacity c - length rs) = omega (arith, length-encode rs) in
+    rw (a, b)
