@@ -44,7 +44,7 @@ part-none l at = refl
 
 -- ---- blocks
 
-records-fit : (h : List ℕ) (at n : ℕ) → Bytes h → All Fits (records h at n)
+pub records-fit : (h : List ℕ) (at n : ℕ) → Bytes h → All Fits (records h at n)
 records-fit h at zero b = rw records-none none
 records-fit h at (suc n) b = rw (records-more h at n) (more (record-fits h at b) (records-fit h (at + 8) n b))
 

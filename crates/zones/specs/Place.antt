@@ -1,11 +1,41 @@
 -- A block placed: what it needs, and the bytes afterwards.
+use mathlib.Core.Path.{_≡_}
+use mathlib.Core.Bool.{true, false}
+use mathlib.Core.Option.{Option}
 use mathlib.Core.List.{List, [], _∷_, _++_}
-use Prim.Native.Nat.{ℕ, _+_, _*_, _-_, _/_}
+use Prim.Native.Nat.{ℕ, _+_, _*_, _-_, _/_, _≤_, _<_}
+use lib.Dec.{eqb}
 use lib.ListN.{length, replicate}
-use Rattle.wire.specs.Bytes.{bytes16, bytes32}
-use Rattle.home.specs.Capacities.{cells}
+use Rattle.wire.specs.Bytes.{pick, bytes16, bytes32}
+use Rattle.records.specs.Records.{rising, decode as recordsIn}
+use Rattle.home.specs.Capacities.{cells, classOf}
+use Rattle.home.specs.Zones.{Block, Zone, blocks, hasTag, place}
+use Rattle.home.specs.Bytes.{decode}
+use Rattle.home.specs.Sound.{pagesOf, sound}
 
 -- a whole block of class c: tag t and the bytes bs of its list
 unfoldable pub blockOf : ℕ → ℕ → List ℕ → List ℕ
 unfolding bytes16 bytes32 cells
 blockOf c t bs = bytes32 t ++ (bytes16 (length bs / 8) ++ (0 ∷ 0 ∷ (bs ++ replicate (8 * cells c - 8 - length bs) 0)))
+
+-- the first cell of a zone of n blocks from f on, once a block is put in at p
+unfoldable pub firstWith : ℕ → ℕ → ℕ → ℕ
+firstWith n f p = pick (eqb n 0) p f
+
+-- the block of tag t with the records in bs
+abbrev pub blockIn : ℕ → List ℕ → Block
+blockIn t bs = record { tag = t; list = recordsIn bs }
+
+-- the layout with that block placed
+abbrev pub placedIn : List ℕ → ℕ → List ℕ → Option (List Zone)
+placedIn h t bs = place cells (8 * pagesOf h) 0 0 (classOf (length bs / 8)) (blockIn t bs) (decode h)
+
+-- a sound home in which tag t has no block, and a list for it
+pub record Placeable (h : List ℕ) (t : ℕ) (bs : List ℕ) : Type 0 where
+  pub sound : sound h ≡ true
+  pub new : hasTag t (blocks (decode h)) ≡ false
+  pub few : length (blocks (decode h)) < 256
+  pub whole : length bs ≡ 8 * (length bs / 8)
+  pub some : 0 < length bs / 8
+  pub most : length bs / 8 ≤ 989
+  pub rising : rising (recordsIn bs) ≡ true

@@ -15,7 +15,7 @@ use Rattle.home.specs.SoundLaws.{t-sound, sound-pages, sound-zones, encode-deco
 use Rattle.zones.specs.HomeLaws.{Loose}
 use Rattle.zones.specs.Room.{endAfter, Ready}
 
-valid-loose : (R : ℕ) (zs : List Zone) → Valid (8 * R) zs → Loose R zs
+pub valid-loose : (R : ℕ) (zs : List Zone) → Valid (8 * R) zs → Loose R zs
 valid-loose R zs v = record { classes = v .classes; fit = laid-fit (8 * R) 0 0 zs (v .laid); distinct = v .distinct; few = v .few }
 
 module _ (h : List ℕ) (t : sound h ≡ true) where

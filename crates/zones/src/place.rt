@@ -1,15 +1,21 @@
 // A block placed.
+use crate::lift::make_room;
+use crate::moves::insert_entry;
+use crate::moves::set_zone;
 use home::classes::cells;
+use home::classes::class_of;
 use home::lookup::zone_count;
 use home::lookup::zone_first;
 ghost use mathlib.Core.Path.{_≡_};
+ghost use mathlib.Core.List.{[]};
 ghost use Prim.Native.Nat.{_+_, _*_, _≤_, _<_};
 ghost use lib.ListN.{length, take};
 ghost use Rattle.wire.specs.Bytes.{over};
 ghost use Rattle.home.specs.Capacities.{cells as sizeOf};
 ghost use Rattle.home.specs.Bytes.{cellAt, decode};
-ghost use Rattle.zones.specs.Room.{Stored, endAfter};
-ghost use Rattle.zones.specs.Place.{blockOf};
+ghost use Rattle.home.specs.Sound.{pagesOf};
+ghost use Rattle.zones.specs.Room.{made, settled, endAfter, Stored};
+ghost use Rattle.zones.specs.Place.{blockOf, firstWith, placedIn, Placeable};
 
 // Where the zones below class c end: the end of the nearest nonempty one, or cell 0.
 pub fn end_below(home: &[u8], c: usize) -> usize
@@ -40,4 +46,32 @@ fn write_block(home: &mut [u8], c: usize, p: usize, tag: u32, list: &[u8])
     wire::put16(home, at + 6, 0);
     wire::copy(home, at + 8, list);
     wire::fill(home, at + 8 + n, free, 0);
+}
+
+// The first cell of a zone of n blocks from f on, once a block is put in at p.
+fn first_with(n: usize, f: usize, p: usize) -> usize
+    ensures { λ r. ⌜ r ≡ firstWith n f p ⌝ }
+{
+    if n == 0 { p } else { f }
+}
+
+// Places a block with this list for a tag that has none. Nothing is stored where there is no room.
+pub fn place(home: &mut [u8], tag: u32, list: &[u8]) -> bool
+    requires { ⌜ Placeable (now home) tag (now list) ⌝ }
+    ensures { λ r. ⌜ (r ≡ made (placedIn (now (home .entry)) tag (now (list .entry)))) × (now (home .exit) ≡ settled (pagesOf (now (home .entry))) (now (home .entry)) [] (placedIn (now (home .entry)) tag (now (list .entry)))) ⌝ }
+{
+    let c = class_of(list.len() / 8);
+    let n = zone_count(home, c);
+    let f = zone_first(home, c);
+    let p = end_below(home, c + 1);
+    let k = cells(c);
+    let area = (home.len() - 1664) / 8;
+    if !make_room(home, c + 1, p + k, area) {
+        return false;
+    }
+    write_block(home, c, p, tag, list);
+    insert_entry(home, tag, p);
+    let first = first_with(n, f, p);
+    set_zone(home, c, first, n + 1);
+    true
 }
