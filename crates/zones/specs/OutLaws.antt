@@ -1,9 +1,10 @@
 -- A block taken out of its zone.
 use mathlib.Core.Path.{_≡_, refl, sym, ap, ap₂, _∙_, subst}
 use mathlib.Core.Bool.{true, false}
-use mathlib.Core.List.{List, [], _∷_, _++_, append-nil}
+use mathlib.Core.List.{List, [], _∷_, _++_, append-assoc, append-nil}
 use Prim.Native.Nat.{ℕ, zero, suc, _+_, _*_, _-_, _≤_, _<_}
 use native.Mathlib.Omega.{arith}
+use native.Mathlib.Numerals.{add-one}
 use lib.ListN.{length, getD, take, drop, length-append, replicate}
 use borrow.Author.Tests.{lt-ltb, le-ltb}
 use Rattle.wire.specs.Bytes.{over, get16}
@@ -11,24 +12,26 @@ use Rattle.wire.specs.All.{All, all-append, all-tail}
 use Rattle.home.specs.Capacities.{cells}
 use Rattle.home.specs.CapacitiesLaws.{cells-pos}
 use Rattle.room.specs.Steps.{firstIf}
-use Rattle.home.specs.Zones.{Block, Zone, empty, from, zone, blocks, hasTag, lastOf, initOf, turned, endOf}
+use Rattle.home.specs.Zones.{Block, Zone, empty, from, zone, blocks, hasTag, lastOf, initOf, turned, endOf, close, takeOut}
 use Rattle.home.specs.Perm.{Perm, pskip, ptrans, Pairs}
 use Rattle.home.specs.PermLaws.{prefl, psym, pleft, pright, pfront, plength, pall, pairs-tail}
 use Rattle.home.specs.FindLaws.{pdistinct}
 use Rattle.home.specs.TakeLaws.{turned-perm}
 use Rattle.home.specs.Valid.{Other}
 use Rattle.home.specs.Layout.{Sits, Fit}
-use Rattle.home.specs.Bytes.{row, spots, encode, cellAt, firstAt, manyAt}
+use Rattle.home.specs.Sound.{pagesOf}
+use Rattle.home.specs.Bytes.{row, spots, encode, decode, cellAt, firstAt, manyAt}
 use Rattle.home.specs.AreaLaws.{fit-le}
 use Rattle.home.specs.Lookup.{Ordered, indexOf}
 use Rattle.zones.specs.Moves.{Movable, zoned, moved, entered, unentered, filled}
 use Rattle.zones.specs.SpotLaws.{spot}
 use Rattle.zones.specs.HomeLaws.{Loose, movable-without}
-use Rattle.zones.specs.Room.{endAfter}
-use Rattle.zones.specs.RoomLaws.{take-here, drop-next, zone-here}
-use Rattle.zones.specs.Close.{zoneOf}
+use Rattle.zones.specs.Room.{endAfter, Stored}
+use Rattle.zones.specs.RoomLaws.{take-here, take-next, drop-next, zone-here, end-next}
+use Rattle.zones.specs.Close.{zoneOf, closedBytes, Open}
+use Rattle.zones.specs.CloseLaws.{decode-loose, pages-loose}
 use Rattle.zones.specs.Known.{Known, lacking, outBytes}
-use Rattle.zones.specs.KnownLaws.{lacking-there}
+use Rattle.zones.specs.KnownLaws.{lacking-there, takeOut-there}
 use Rattle.zones.specs.BlockLaws.{Lying, lying, known-spots, known-lying, others-of}
 use Rattle.zones.specs.StepLaws.{firstOf, manyOf, first-zone, many-zone, class-below, fill-spots, home-last-gone, home-place-filled}
 use Rattle.zones.specs.LooseLaws.{zone-at, movable, length-loose, blocks-append, fit-above, fit-joined, fit-lower}
@@ -195,6 +198,26 @@ module _ (R : ℕ) (small : R ≤ 1024) (zs ls : List Zone) (f : ℕ) (pre : Lis
         r .1 ∙ ap manyOf i ∙ many-zone R small ls f (pre ++ b ∷ post) ∙ length-append pre (b ∷ post) ∙ omega arith,
       )
 
+  -- ---- then gaps are closed
+
+  out-closed : (e : ℕ) → hasTag t (blocks ls) ≡ false → e ≡ endAfter 0 0 (take (c + 1) (now R ls f pre b post hs))
+      → closedBytes R (now R ls f pre b post hs) (c + 1) e ≡ encode R (takeOut cells t 0 0 zs)
+  unfolding closedBytes
+  out-closed e lacks q =
+      let z : Zone = zone f (pre ++ turned post) in
+      let g : e ≡ endOf cells (length ls) (endAfter 0 0 ls) z = q ∙ rw (← class, add-one) (ap (endAfter 0 0) (take-next ls z hs) ∙ end-next 0 0 (length ls) ls z (omega arith)) in
+      rw (is, ← class, add-one, g)
+      (ap₂ (λ (l r : List Zone). encode R (l ++ close cells (suc (length ls)) (endOf cells (length ls) (endAfter 0 0 ls) z) r)) (take-next ls z hs) (drop-next ls z hs)
+      ∙ ap (encode R) (append-assoc ls (z ∷ []) (close cells (suc (length ls)) (endOf cells (length ls) (endAfter 0 0 ls) z) hs)
+      ∙ sym (takeOut-there t b tag post f pre none 0 0 (length ls) ls hs (omega arith) lacks)))
+
+-- the bytes of a layout
+pub stored : (R : ℕ) (h : List ℕ) (zs : List Zone) → R ≤ 1024 → h ≡ encode R zs → Loose R zs → Stored h
+stored R h zs small e v =
+    let q : pagesOf h ≡ R = ap pagesOf e ∙ pages-loose R small zs v in
+    let z : decode h ≡ zs = ap decode e ∙ decode-loose R small zs v in
+    record { pages = rw q small; bytes = e ∙ sym (ap₂ encode q z); loose = rw (q, z) v }
+
 module _ (R : ℕ) (h : List ℕ) (zs : List Zone) (t c p : ℕ) (k : Known R h zs t c p) where
   pub known-class : c < 30
   known-class = omega (arith, k .class, ap length (k .is), length-append (k .lower) (zone (k .first) (k .before ++ k .block ∷ k .behind) ∷ k .higher), k .loose .classes)
@@ -215,3 +238,28 @@ module _ (R : ℕ) (h : List ℕ) (zs : List Zone) (t c p : ℕ) (k : Known R h 
       n (omega (arith, z .1))
       (subst (λ (l : List ℕ). Movable l p) (sym (k .bytes)) (movable R (k .pages) zs (k .loose) (spot c p (k .block)) (others-of R h zs t c p k) (known-spots R h zs t c p k)))
       (known-lying R h zs t c p k))
+
+  -- ---- h' is home without the block
+
+  abbrev left : List Zone
+  left = now R (k .lower) (k .first) (k .before) (k .block) (k .behind) (k .higher)
+
+  module _ (h' : List ℕ) (q : h' ≡ outBytes R zs t c) where
+    left-bytes : h' ≡ encode R left
+    left-bytes = q ∙ out-zone R (k .pages) zs (k .lower) (k .first) (k .before) (k .block) (k .behind) (k .higher) h t c p (k .is) (k .bytes) (k .class) (k .cell) (k .tag) (k .none-before) (k .loose)
+
+    left-loose : Loose R left
+    left-loose = loose-out R (k .lower) (k .first) (k .before) (k .block) (k .behind) (k .higher) (subst (Loose R) (k .is) (k .loose))
+
+    pub out-stored : Stored h'
+    out-stored = stored R h' left (k .pages) left-bytes left-loose
+
+    pub out-open : (e : ℕ) → e ≡ endAfter 0 0 (take (c + 1) (decode h')) → Open (pagesOf h') h' (decode h') (c + 1) e
+    out-open e g = record { pages = out-stored .pages; bytes = out-stored .bytes; loose = out-stored .loose; class = omega (arith, known-class); end = sym g }
+
+    pub out-taken : (e : ℕ) → e ≡ endAfter 0 0 (take (c + 1) (decode h')) → closedBytes (pagesOf h') (decode h') (c + 1) e ≡ encode R (takeOut cells t 0 0 zs)
+    out-taken e g =
+        let z : decode h' ≡ left = ap decode left-bytes ∙ decode-loose R (k .pages) left left-loose in
+        ap₂ (λ (n : ℕ) (l : List Zone). closedBytes n l (c + 1) e) (ap pagesOf left-bytes ∙ pages-loose R (k .pages) left left-loose) z
+        ∙ out-closed R (k .pages) zs (k .lower) (k .first) (k .before) (k .block) (k .behind) (k .higher) h t c p (k .is) (k .bytes) (k .class) (k .cell) (k .tag) (k .none-before) (k .loose)
+        e (k .none-lower) (g ∙ ap (λ (l : List Zone). endAfter 0 0 (take (c + 1) l)) z)

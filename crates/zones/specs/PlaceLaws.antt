@@ -378,8 +378,9 @@ module _ (h : List ℕ) (t : ℕ) (bs : List ℕ) (c p k f n : ℕ) (l : Placing
       → (true ≡ made (placedIn h t bs)) × Puts h' (settled R h [] (placedIn h t bs)) t (blockOf c t bs) c p f n
   placing-puts r h' q a b =
       let a' : r ≡ hasRoom h (suc c) (p + cells c) = rw (add-one, l .size) at a in
-      let b' : h' ≡ roomed h (suc c) (p + cells c) = rw (add-one, l .size) at b in
-      (sym q ∙ a' ∙ places .answer ∙ ap made placed-is,
-      subst (λ (x : List ℕ). Puts x (settled R h [] (placedIn h t bs)) t (blockOf c t bs) c p f n) (sym b')
-      (subst (λ (x : List ℕ). Puts (roomed h (suc c) (p + cells c)) (settled R h [] (placedIn h t bs)) t x c p f n) written-is
-      (subst (λ (x : Option (List Zone)). Puts (roomed h (suc c) (p + cells c)) (settled R h [] x) t (blockBytes c block) c p f n) placed-is (places .puts (sym a' ∙ q)))))
+      let b' : h' ≡ roomed h (suc c) (p + cells c) = rw (add-one, l .size) at b in (
+        sym q ∙ a' ∙ places .answer ∙ ap made placed-is,
+        subst (λ (x : List ℕ). Puts x (settled R h [] (placedIn h t bs)) t (blockOf c t bs) c p f n) (sym b')
+            (subst (λ (x : List ℕ). Puts (roomed h (suc c) (p + cells c)) (settled R h [] (placedIn h t bs)) t x c p f n) written-is
+            (subst (λ (x : Option (List Zone)). Puts (roomed h (suc c) (p + cells c)) (settled R h [] x) t (blockBytes c block) c p f n) placed-is (places .puts (sym a' ∙ q)))),
+      )

@@ -2,5 +2,5 @@
 mod close;
 mod lift;
 mod moves;
-mod take;
 mod place;
+mod take;

@@ -1,7 +1,9 @@
 // A block taken out.
+use crate::close::close_up;
 use crate::moves::move_block;
 use crate::moves::remove_entry;
 use crate::moves::set_zone;
+use crate::place::end_below;
 use home::classes::cells;
 use home::lookup::zone_count;
 use home::lookup::zone_first;
@@ -10,7 +12,8 @@ ghost use mathlib.Core.Path.{_≡_};
 ghost use Prim.Native.Nat.{_+_, _*_, _≤_, _<_};
 ghost use lib.ListN.{length};
 ghost use Rattle.home.specs.Capacities.{cells as sizeOf};
-ghost use Rattle.home.specs.Bytes.{cellAt, decode};
+ghost use Rattle.home.specs.Zones.{takeOut};
+ghost use Rattle.home.specs.Bytes.{cellAt, encode, decode};
 ghost use Rattle.home.specs.Sound.{pagesOf};
 ghost use Rattle.zones.specs.Moves.{Movable, filled};
 ghost use Rattle.zones.specs.Known.{Known, outBytes};
@@ -38,4 +41,14 @@ fn remove_block(home: &mut [u8], tag: u32, c: usize, p: usize)
     remove_entry(home, tag);
     fill_place(home, c, f + n * cells(c), p);
     set_zone(home, c, first_if(f, n), n);
+}
+
+// Takes the tag's block of class c at cell p out, and closes up.
+pub fn take_out(home: &mut [u8], tag: u32, c: usize, p: usize)
+    requires { ⌜ Known (pagesOf (now home)) (now home) (decode (now home)) tag c p ⌝ }
+    ensures { λ _. ⌜ now (home .exit) ≡ encode (pagesOf (now (home .entry))) (takeOut sizeOf tag 0 0 (decode (now (home .entry)))) ⌝ }
+{
+    remove_block(home, tag, c, p);
+    let e = end_below(home, c + 1);
+    close_up(home, c + 1, e);
 }
