@@ -35,7 +35,7 @@ unfolding remove
 length-remove k [] = omega arith
 length-remove k (x ∷ xs) = by-pick (λ (l : List Record). length l ≤ suc (length xs)) (eqb (key x) k) (λ t. omega arith) (λ t. omega (arith, length-remove k xs))
 
-length-amend : (k m : ℕ) (rs : List Record) → length (amend k m rs) ≡ length rs
+pub length-amend : (k m : ℕ) (rs : List Record) → length (amend k m rs) ≡ length rs
 unfolding amend
 length-amend k m [] = refl
 length-amend k m (x ∷ xs) = by-pick (λ (l : List Record). length l ≡ suc (length xs)) (eqb (key x) k) (λ t. refl) (λ t. ap suc (length-amend k m xs))

@@ -12,13 +12,13 @@ use Rattle.home.specs.BytesLaws.{get16-front, get32-drop}
 
 -- ---- bytes written in one of two runs
 
-over-behind : (p q : List ℕ) (i k : ℕ) (bs : List ℕ) → length p ≡ i → over (p ++ q) (i + k) bs ≡ p ++ over q k bs
+pub over-behind : (p q : List ℕ) (i k : ℕ) (bs : List ℕ) → length p ≡ i → over (p ++ q) (i + k) bs ≡ p ++ over q k bs
 unfolding over
 over-behind [] q i k bs e = let a : i + k ≡ k = omega arith in rw a
 over-behind (x ∷ p) q zero k bs e = absurd (omega arith)
 over-behind (x ∷ p) q (suc i) k bs e = let a : suc i + k ≡ suc (i + k) = omega arith in rw a (ap (_∷_ x) (over-behind p q i k bs (omega arith)))
 
-over-ahead : (p q : List ℕ) (k : ℕ) (bs : List ℕ) → k + length bs ≤ length p → over (p ++ q) k bs ≡ over p k bs ++ q
+pub over-ahead : (p q : List ℕ) (k : ℕ) (bs : List ℕ) → k + length bs ≤ length p → over (p ++ q) k bs ≡ over p k bs ++ q
 unfolding over
 over-ahead [] q k [] g = over-nil q k
 over-ahead [] q k (b ∷ bs) g = absurd (omega arith)
@@ -26,7 +26,7 @@ over-ahead (x ∷ p) q zero [] g = refl
 over-ahead (x ∷ p) q zero (b ∷ bs) g = ap (_∷_ b) (over-ahead p q zero bs (omega arith))
 over-ahead (x ∷ p) q (suc k) bs g = ap (_∷_ x) (over-ahead p q k bs (omega arith))
 
-part-behind : (p q : List ℕ) (i k n : ℕ) → length p ≡ i → part (p ++ q) (i + k) n ≡ part q k n
+pub part-behind : (p q : List ℕ) (i k n : ℕ) → length p ≡ i → part (p ++ q) (i + k) n ≡ part q k n
 part-behind p q i k n e = sym (part-drop (p ++ q) i k n) ∙ ap (λ (x : List ℕ). part x k n) (drop-at p q i e)
 
 part-ahead : (p q : List ℕ) (k n : ℕ) → k + n ≤ length p → part (p ++ q) k n ≡ part p k n

@@ -20,3 +20,5 @@ pub mod BlockLaws
 pub mod OutLaws
 pub mod Place
 pub mod PlaceLaws
+pub mod Lists
+pub mod ListsLaws

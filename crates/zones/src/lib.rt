@@ -1,6 +1,7 @@
 // Moving blocks: the code that works on a sound workspace's bytes in place.
 mod close;
 mod lift;
+mod lists;
 mod moves;
 mod place;
 mod take;
