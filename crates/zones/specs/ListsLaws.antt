@@ -8,7 +8,7 @@ use native.Mathlib.Nat.{add-zero}
 use lib.ListN.{length, take, drop, set, getD, replicate, length-append, length-replicate, replicate-append-replicate, length-take, length-drop, take-append-drop, drop-of-length-le}
 use lib.Seq.{take-all, drop-at, drop-drop, take-at, split-at, set-split, length-take-le}
 use Rattle.wire.specs.Bytes.{part, over, bytes16, bytes32}
-use Rattle.wire.specs.BytesLaws.{over-nil, over-cons, over-is, over-whole, over-append, length-part, part-add, part-drop, length-bytes16, length-bytes32}
+use Rattle.wire.specs.BytesLaws.{over-nil, over-cons, over-is, over-whole, over-append, length-part, part-of, part-add, part-drop, length-bytes16, length-bytes32}
 use Rattle.wire.specs.Cases.{by-lt, never}
 use Rattle.records.specs.declared.Record.{Record}
 use Rattle.records.specs.Records.{key, rising, look, held, rank, insert, remove, amend, lasting, bytesOf, up, down, inserted, removed, amended, records, encode as recordBytes}
@@ -67,6 +67,71 @@ unfolding amended
 amended-in p x q i m a b =
     set-over (p ++ (x ++ q)) (8 * i + 7) m ∙ over-behind p (x ++ q) (8 * i) 7 (m ∷ []) a
     ∙ ap (λ (y : List ℕ). p ++ y) (over-ahead x q 7 (m ∷ []) (omega arith) ∙ ap (λ (y : List ℕ). y ++ q) (sym (set-over x 7 m)))
+
+-- ---- the same of home's bytes, where n records lie at cell p
+
+module _ (h : List ℕ) (p n j : ℕ) where
+  pub length-grown : (r : Record) → j ≤ n → listAt p + 8 * n ≤ length h → length (grown h p n j r) ≡ 8 * (n + 1)
+  unfolding grown
+  length-grown r g i = simp length-append (omega (arith, length-part h (listAt p) (8 * j) (omega arith), length-bytesOf r, length-part h (listAt p + 8 * j) (8 * (n - j)) (omega arith)))
+
+  pub length-shrunk : j < n → listAt p + 8 * n ≤ length h → length (shrunk h p n j) ≡ 8 * (n - 1)
+  unfolding shrunk
+  length-shrunk g i = simp length-append (omega (arith, length-part h (listAt p) (8 * j) (omega arith), length-part h (listAt p + 8 * j + 8) (8 * (n - (j + 1))) (omega arith)))
+
+  grown-is : (r : Record) (z : List ℕ) → j ≤ n → listAt p + 8 * n ≤ length h → length z ≡ 8 → inserted (part h (listAt p) (8 * n) ++ z) j r ≡ grown h p n j r
+  unfolding grown
+  grown-is r z g i b =
+      let x : List ℕ = part h (listAt p) (8 * j) in
+      let y : List ℕ = part h (listAt p + 8 * j) (8 * (n - j)) in
+      let e : 8 * n ≡ 8 * j + 8 * (n - j) = omega arith in
+      ap (λ (l : List ℕ). inserted (l ++ z) j r) (ap (part h (listAt p)) e ∙ part-add h (listAt p) (8 * j) (8 * (n - j)))
+      ∙ ap (λ (l : List ℕ). inserted l j r) (append-assoc x y z)
+      ∙ inserted-in x y z j r (length-part h (listAt p) (8 * j) (omega arith)) b
+
+  -- in the cells lent, and in a run to which the list was copied
+  pub inserted-lent : (r : Record) → j ≤ n → listAt p + 8 * (n + 1) ≤ length h
+      → inserted (take (listAt p + 8 * (n + 1) - listAt p) (drop (listAt p) h)) j r ≡ grown h p n j r
+  inserted-lent r g i =
+      let e : 8 * (n + 1) ≡ 8 * n + 8 = omega arith in
+      ap (λ (l : List ℕ). inserted l j r) (part-of h (listAt p) (8 * (n + 1)) ∙ ap (part h (listAt p)) e ∙ part-add h (listAt p) (8 * n) 8)
+      ∙ grown-is r (part h (listAt p + 8 * n) 8) g (omega arith) (length-part h (listAt p + 8 * n) 8 (omega arith))
+
+  pub inserted-copy : (r : Record) (out : List ℕ) → j ≤ n → listAt p + 8 * n ≤ length h → length out ≡ 8 * (n + 1)
+      → inserted (over out 0 (take (listAt p + 8 * n - listAt p) (drop (listAt p) h))) j r ≡ grown h p n j r
+  inserted-copy r out g i o =
+      let l : List ℕ = part h (listAt p) (8 * n) in
+      let m : length l ≡ 8 * n = length-part h (listAt p) (8 * n) i in
+      ap (λ (x : List ℕ). inserted x j r) (ap (over out 0) (part-of h (listAt p) (8 * n)) ∙ over-is out 0 l (omega arith))
+      ∙ grown-is r (drop (0 + length l) out) g i (length-drop (0 + length l) out ∙ omega arith)
+
+  pub removed-lent : j < n → listAt p + 8 * n ≤ length h
+      → removed (take (listAt p + 8 * n - listAt p) (drop (listAt p) h)) j ≡ shrunk h p n j ++ replicate 8 0
+  unfolding shrunk
+  removed-lent g i =
+      let k : ℕ = 8 * (n - (j + 1)) in
+      let e : 8 * n ≡ 8 * j + (8 + k) = omega arith in
+      ap (λ (l : List ℕ). removed l j) (part-of h (listAt p) (8 * n) ∙ ap (part h (listAt p)) e ∙ part-add h (listAt p) (8 * j) (8 + k)
+      ∙ ap (λ (l : List ℕ). part h (listAt p) (8 * j) ++ l) (part-add h (listAt p + 8 * j) 8 k))
+      ∙ removed-in (part h (listAt p) (8 * j)) (part h (listAt p + 8 * j) 8) (part h (listAt p + 8 * j + 8) k) j
+      (length-part h (listAt p) (8 * j) (omega arith)) (length-part h (listAt p + 8 * j) 8 (omega arith))
+
+  -- both sides of a record copied
+  pub copied-twice : (out : List ℕ) → j < n → listAt p + 8 * n ≤ length h → length out ≡ 8 * (n - 1)
+      → over (over out 0 (take (listAt p + 8 * j - listAt p) (drop (listAt p) h))) (8 * j) (take (listAt p + 8 * n - (listAt p + 8 * j + 8)) (drop (listAt p + 8 * j + 8) h))
+      ≡ shrunk h p n j
+  unfolding shrunk part
+  copied-twice out g i o =
+      let x : List ℕ = part h (listAt p) (8 * j) in
+      let m : length x ≡ 8 * j = length-part h (listAt p) (8 * j) (omega arith) in
+      let e : listAt p + 8 * j - listAt p ≡ 8 * j = omega arith in
+      let f : listAt p + 8 * n - (listAt p + 8 * j + 8) ≡ 8 * (n - (j + 1)) = omega arith in
+      let y : List ℕ = part h (listAt p + 8 * j + 8) (8 * (n - (j + 1))) in
+      let k : 8 * j ≡ 0 + length x = omega arith in
+      ap₂ (λ (a b : ℕ). over (over out 0 (take a (drop (listAt p) h))) (8 * j) (take b (drop (listAt p + 8 * j + 8) h))) e f
+      ∙ ap (λ (a : ℕ). over (over out 0 x) a y) k
+      ∙ over-append out 0 x y
+      ∙ over-whole out (x ++ y) (length-shrunk g i ∙ sym o)
 
 -- ---- a list's bytes cut at a rank
 

@@ -1,74 +1,72 @@
+use mathlib.Core.Path.{ap, _∙_}
+use mathlib.Core.List.{List, _++_}
+use Prim.Native.Nat.{ℕ, _+_, _*_, _-_}
+use native.Mathlib.Omega.{arith}
+use lib.ListN.{replicate, length-append}
+use Rattle.wire.specs.Bytes.{over, bytes16}
+use Rattle.wire.proofs.Part.{put-over}
+use Rattle.home.specs.Bytes.{cellAt}
+use Rattle.zones.specs.Lists.{listAt, shrunk, relisted, removedHere}
+use Rattle.zones.specs.ListsLaws.{length-shrunk, removed-lent}
 use borrow.Author.Needs.{needs}
 use Rattle.zones.proofs.lists.remove_here.Statement.{statement}
 use Rattle.zones.proofs.lists.remove_here.Tie as tie
-use Rattle.zones.proofs.lists.remove_here.Reads as reads
-use Rattle.zones.proofs.lists.remove_here.Lts as lts
-use Rattle.records.proofs.remove.Reads as remove-reads
-use Rattle.wire.proofs.put16.Reads as put16-reads
 
--- src/lists.rt:25:21
 mul-at : tie.Need-mul-at
 mul-at c = search needs
 
--- src/lists.rt:25:14
 add-at : tie.Need-add-at
 add-at c = search needs
 
--- src/lists.rt:25:14
 add-at-2 : tie.Need-add-at-2
 add-at-2 c = search needs
 
--- src/lists.rt:26:20
 mul-end : tie.Need-mul-end
 mul-end c = search needs
 
--- src/lists.rt:26:15
 add-end : tie.Need-add-end
 add-end c = search needs
 
--- src/lists.rt:27:21
 sub-remove : tie.Need-sub-remove
 sub-remove c = search needs
 
--- src/lists.rt:27:21
 part-remove-start : tie.Need-part-remove-start
 part-remove-start c = search needs
 
--- src/lists.rt:27:21
 part-remove-end : tie.Need-part-remove-end
 part-remove-end c = search needs
 
--- src/lists.rt:27:5
 remove-requires : tie.Need-remove-requires
 remove-requires c κs = search needs
 
--- src/lists.rt:28:30
 mul-put16 : tie.Need-mul-put16
 mul-put16 c = search needs
 
--- src/lists.rt:28:23
 add-put16 : tie.Need-add-put16
 add-put16 c = search needs
 
--- src/lists.rt:28:23
 add-put16-2 : tie.Need-add-put16-2
 add-put16-2 c = search needs
 
--- src/lists.rt:28:41
 sub-put16 : tie.Need-sub-put16
 sub-put16 c = search needs
 
--- src/lists.rt:28:5
 put16-requires : tie.Need-put16-requires
 put16-requires c κs = search needs
 
--- src/lists.rt:21:1
 same-length : tie.Need-same-length
 same-length c = search needs
 
--- src/lists.rt:21:1
 returns : tie.Need-returns
-returns c = ?
+unfolding removedHere relisted
+returns c =
+    let a = c .before .before .before .before .before .before .before .before .before .args in
+    let h : List ℕ = a .home .now in
+    let l : List ℕ = shrunk h (a .p) (a .n) (a .j) in
+    let came = c .before .before .before .before .before .before .remove .ensures ∙ removed-lent h (a .p) (a .n) (a .j) (omega arith) (omega arith) in
+    let put = put-over (listAt (a .p)) (listAt (a .p) + 8 * a .n) h (l ++ replicate 8 0)
+    (omega (arith, length-append l (replicate 8 0), length-shrunk h (a .p) (a .n) (a .j) (omega arith) (omega arith))) (omega arith) in
+    c .before .before .put16 .ensures ∙ rw came (ap (λ (x : List ℕ). over x (cellAt (a .p) + 4) (bytes16 (a .n - 1))) put)
 
 pub remove-here-spec : {M : Type 1} → statement M
 remove-here-spec =

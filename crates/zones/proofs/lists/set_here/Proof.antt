@@ -1,53 +1,57 @@
+use mathlib.Core.Path.{ap, _∙_}
+use mathlib.Core.List.{List}
+use Prim.Native.Nat.{ℕ, _+_, _*_}
+use native.Mathlib.Omega.{arith}
+use Rattle.wire.specs.BytesLaws.{length-part, part-of}
+use Rattle.wire.specs.Bytes.{part}
+use Rattle.wire.proofs.Part.{put-over}
+use Rattle.records.specs.Records.{amended}
+use Rattle.records.specs.Edits.{length-amended}
+use Rattle.zones.specs.Lists.{listAt, setHere}
 use borrow.Author.Needs.{needs}
 use Rattle.zones.proofs.lists.set_here.Statement.{statement}
 use Rattle.zones.proofs.lists.set_here.Tie as tie
-use Rattle.zones.proofs.lists.set_here.Reads as reads
-use Rattle.zones.proofs.lists.set_here.Lts as lts
-use Rattle.records.proofs.set_minutes.Reads as set-minutes-reads
 
--- src/lists.rt:36:21
 mul-at : tie.Need-mul-at
 mul-at c = search needs
 
--- src/lists.rt:36:14
 add-at : tie.Need-add-at
 add-at c = search needs
 
--- src/lists.rt:36:14
 add-at-2 : tie.Need-add-at-2
 add-at-2 c = search needs
 
--- src/lists.rt:37:20
 mul-end : tie.Need-mul-end
 mul-end c = search needs
 
--- src/lists.rt:37:15
 add-end : tie.Need-add-end
 add-end c = search needs
 
--- src/lists.rt:38:26
 sub-set-minutes : tie.Need-sub-set-minutes
 sub-set-minutes c = search needs
 
--- src/lists.rt:38:26
 part-set-minutes-start : tie.Need-part-set-minutes-start
 part-set-minutes-start c = search needs
 
--- src/lists.rt:38:26
 part-set-minutes-end : tie.Need-part-set-minutes-end
 part-set-minutes-end c = search needs
 
--- src/lists.rt:38:5
 set-minutes-requires : tie.Need-set-minutes-requires
 set-minutes-requires c κs = search needs
 
--- src/lists.rt:32:1
 same-length : tie.Need-same-length
 same-length c = search needs
 
--- src/lists.rt:32:1
 returns : tie.Need-returns
-returns c = ?
+unfolding setHere
+returns c =
+    let a = c .before .before .before .before .before .args in
+    let h : List ℕ = a .home .now in
+    let l : List ℕ = part h (listAt (a .p)) (8 * a .n) in
+    let came = c .before .before .set-minutes .ensures ∙ ap (λ (x : List ℕ). amended x (a .j) (a .minutes)) (part-of h (listAt (a .p)) (8 * a .n)) in
+    rw came
+    (put-over (listAt (a .p)) (listAt (a .p) + 8 * a .n) h (amended l (a .j) (a .minutes))
+    (omega (arith, length-amended l (a .j) (a .minutes), length-part h (listAt (a .p)) (8 * a .n) (omega arith))) (omega arith))
 
 pub set-here-spec : {M : Type 1} → statement M
 set-here-spec =
