@@ -2,13 +2,13 @@
 use mathlib.Core.Path.{_≡_, refl, sym, ap, ap₂, _∙_}
 use mathlib.Core.Bool.{true}
 use mathlib.Core.List.{List, [], _∷_, _++_, append-assoc, append-nil}
-use Prim.Native.Nat.{ℕ, zero, suc, _+_, _*_, _-_, _≤_, _<_}
+use Prim.Native.Nat.{ℕ, suc, _+_, _*_, _-_, _≤_, _<_}
 use native.Mathlib.Omega.{arith}
 use native.Mathlib.Nat.{add-zero}
 use lib.ListN.{length, take, drop, set, getD, replicate, length-append, length-replicate, replicate-append-replicate, length-take, length-drop, take-append-drop, drop-of-length-le}
-use lib.Seq.{take-all, drop-at, drop-drop, take-at, split-at, set-split, length-take-le}
+use lib.Seq.{drop-drop, split-at, set-split, length-take-le}
 use Rattle.wire.specs.Bytes.{part, over, bytes16, bytes32}
-use Rattle.wire.specs.BytesLaws.{over-nil, over-cons, over-is, over-whole, over-append, length-part, part-of, part-add, part-drop, length-bytes16, length-bytes32}
+use Rattle.wire.specs.BytesLaws.{over-nil, over-cons, over-is, over-whole, over-append, length-part, part-of, part-add, part-drop}
 use Rattle.wire.specs.Cases.{by-lt, never}
 use Rattle.records.specs.declared.Record.{Record}
 use Rattle.records.specs.Records.{key, rising, look, held, rank, insert, remove, amend, lasting, bytesOf, up, down, inserted, removed, amended, records, encode as recordBytes}
@@ -21,15 +21,15 @@ use Rattle.home.specs.Zones.{Block}
 use Rattle.home.specs.Layout.{Sits}
 use Rattle.home.specs.Bytes.{blockBytes, cellAt}
 use Rattle.home.specs.AreaLaws.{length-block}
-use Rattle.home.specs.BytesLaws.{chop, part-join}
+use Rattle.home.specs.BytesLaws.{part-join}
 use Rattle.home.specs.EditsLaws.{length-insert, length-amend}
-use Rattle.home.specs.HomeLaws.{block-records}
+use Rattle.home.specs.HomeLaws.{block-starts, block-records}
 use Rattle.zones.specs.JoinLaws.{over-behind, over-ahead, part-behind, over-seam}
-use Rattle.zones.specs.Lists.{listAt, grown, shrunk, relisted, insertedHere, removedHere, setHere}
+use Rattle.zones.specs.Lists.{listAt, holding, grown, shrunk, relisted, insertedHere, removedHere, setHere}
 
 -- ---- edits of a run of bytes: i records' bytes p, then the rest
 
-pub inserted-in : (p q z : List ℕ) (i : ℕ) (r : Record) → length p ≡ 8 * i → length z ≡ 8 → inserted (p ++ (q ++ z)) i r ≡ p ++ (bytesOf r ++ q)
+inserted-in : (p q z : List ℕ) (i : ℕ) (r : Record) → length p ≡ 8 * i → length z ≡ 8 → inserted (p ++ (q ++ z)) i r ≡ p ++ (bytesOf r ++ q)
 unfolding inserted up
 inserted-in p q z i r a b =
     let l : List ℕ = p ++ (q ++ z) in
@@ -43,7 +43,7 @@ inserted-in p q z i r a b =
     ∙ over-seam p m (q ++ []) (bytesOf r) (8 * i) a (k ∙ sym (length-bytesOf r))
     ∙ ap (λ (x : List ℕ). p ++ (bytesOf r ++ x)) (append-nil q)
 
-pub removed-in : (p x q : List ℕ) (i : ℕ) → length p ≡ 8 * i → length x ≡ 8 → removed (p ++ (x ++ q)) i ≡ p ++ q ++ replicate 8 0
+removed-in : (p x q : List ℕ) (i : ℕ) → length p ≡ 8 * i → length x ≡ 8 → removed (p ++ (x ++ q)) i ≡ p ++ q ++ replicate 8 0
 unfolding removed down
 removed-in p x q i a b =
     let l : List ℕ = p ++ (x ++ q) in
@@ -62,7 +62,7 @@ removed-in p x q i a b =
 set-over : (l : List ℕ) (i m : ℕ) → set l i m ≡ over l i (m ∷ [])
 set-over l i m = sym (over-nil (set l i m) (suc i)) ∙ over-cons l i m []
 
-pub amended-in : (p x q : List ℕ) (i m : ℕ) → length p ≡ 8 * i → length x ≡ 8 → amended (p ++ (x ++ q)) i m ≡ p ++ (set x 7 m ++ q)
+amended-in : (p x q : List ℕ) (i m : ℕ) → length p ≡ 8 * i → length x ≡ 8 → amended (p ++ (x ++ q)) i m ≡ p ++ (set x 7 m ++ q)
 unfolding amended
 amended-in p x q i m a b =
     set-over (p ++ (x ++ q)) (8 * i + 7) m ∙ over-behind p (x ++ q) (8 * i) 7 (m ∷ []) a
@@ -158,47 +158,13 @@ length-remove k rs e h =
     ap (λ (l : List Record). suc (length l)) (remove-at 0 k rs e h)
     ∙ simp (length-append, length-take, length-drop) (omega arith)
 
--- ---- in home's bytes, where a list's records lie and some bytes behind
+-- ---- bytes behind others
 
--- bytes behind others
 part-in : (l xs ys zs : List ℕ) (at k m : ℕ) → drop at l ≡ xs ++ (ys ++ zs) → length xs ≡ k → length ys ≡ m → part l (at + k) m ≡ ys
 part-in l xs ys zs at k m e a b = sym (part-drop l at k m) ∙ ap (λ (x : List ℕ). part x k m) e ∙ part-join k m xs ys zs a b
 
 part-first : (l ys zs : List ℕ) (at m : ℕ) → drop at l ≡ ys ++ zs → length ys ≡ m → part l at m ≡ ys
 part-first l ys zs at m e b = ap (λ (k : ℕ). part l k m) (sym (add-zero at)) ∙ part-in l [] ys zs at 0 m e refl b
-
-module _ (h : List ℕ) (p : ℕ) (rs : List Record) (rest : List ℕ) (e : drop (listAt p) h ≡ recordBytes rs ++ rest) where
-  pub list-bytes : part h (listAt p) (8 * length rs) ≡ recordBytes rs
-  list-bytes = part-first h (recordBytes rs) rest (listAt p) (8 * length rs) e (length-encode rs)
-
-  -- the bytes of the first j records, of the j-th, and of those behind
-  cut : (j : ℕ) → drop (listAt p) h ≡ recordBytes (take j rs) ++ (recordBytes (drop j rs) ++ rest)
-  cut j = e ∙ ap (λ (l : List Record). recordBytes l ++ rest) (sym (take-append-drop j rs)) ∙ ap (λ (l : List ℕ). l ++ rest) (bytes-append (take j rs) (drop j rs))
-      ∙ append-assoc (recordBytes (take j rs)) (recordBytes (drop j rs)) rest
-
-  front : (j : ℕ) → j ≤ length rs → part h (listAt p) (8 * j) ≡ recordBytes (take j rs)
-  front j g = part-first h (recordBytes (take j rs)) (recordBytes (drop j rs) ++ rest) (listAt p) (8 * j) (cut j) (length-front j rs g)
-
-  behind : (j : ℕ) → j ≤ length rs → part h (listAt p + 8 * j) (8 * (length rs - j)) ≡ recordBytes (drop j rs)
-  behind j g = part-in h (recordBytes (take j rs)) (recordBytes (drop j rs)) rest (listAt p) (8 * j) (8 * (length rs - j)) (cut j) (length-front j rs g)
-      (length-encode (drop j rs) ∙ ap (λ (k : ℕ). 8 * k) (length-drop j rs))
-
-  pub grown-bytes : (r : Record) → grown h p (length rs) (rank (key r) rs) r ≡ recordBytes (insert r rs)
-  unfolding grown
-  grown-bytes r =
-      let j : ℕ = rank (key r) rs in
-      let g : j ≤ length rs = rank-length (key r) rs in
-      ap₂ (λ (x y : List ℕ). x ++ (bytesOf r ++ y)) (front j g) (behind j g) ∙ sym (ap recordBytes (insert-at r rs) ∙ bytes-mid (take j rs) r (drop j rs))
-
-  pub shrunk-bytes : (k : ℕ) → rising rs ≡ true → held (look k rs) ≡ true → shrunk h p (length rs) (rank k rs) ≡ recordBytes (remove k rs)
-  unfolding shrunk
-  shrunk-bytes k u v =
-      let j : ℕ = rank k rs in
-      let g : j < length rs = rank-held k rs v in
-      let a : listAt p + 8 * j + 8 ≡ listAt p + 8 * suc j = omega arith in
-      let b : length rs - (j + 1) ≡ length rs - suc j = omega arith in
-      ap₂ (λ (x y : List ℕ). x ++ y) (front j (omega arith)) (ap₂ (λ (x y : ℕ). part h x (8 * y)) a b ∙ behind (suc j) g)
-      ∙ sym (ap recordBytes (remove-at 0 k rs u v) ∙ bytes-append (take j rs) (drop (suc j) rs))
 
 set-minutes : (x : Record) (m : ℕ) → set (bytesOf x) 7 m ≡ bytesOf (lasting x m)
 unfolding bytesOf bytes32 bytes16
@@ -218,15 +184,12 @@ amended-bytes k m rs u v =
 
 -- ---- a block of class c at cell p
 
--- a block's header, its records with the zeros behind them, and the block with another list
+-- a block's header, and its records with the zeros behind them
 unfoldable header : ℕ → ℕ → List ℕ
 header t n = bytes32 t ++ (bytes16 n ++ (0 ∷ 0 ∷ []))
 
 unfoldable body : ℕ → List Record → List ℕ
 body c rs = recordBytes rs ++ replicate (8 * (capacity c - length rs)) 0
-
-abbrev pub holding : Block → List Record → Block
-holding b rs = record { tag = b .tag; list = rs }
 
 -- the zeros behind n records in room for k, and behind one more
 zeros-more : (k n m : ℕ) → suc n ≡ m → m ≤ k → replicate {A = ℕ} (8 * (k - n)) 0 ≡ replicate 8 0 ++ replicate (8 * (k - m)) 0
@@ -255,11 +218,63 @@ module _ (h : List ℕ) (p c : ℕ) (b : Block) (s : Sits c b) (e : part h (cell
 
   block-there : drop (cellAt p) h ≡ blockBytes c b ++ back
   unfolding back
-  block-there = chop (cellAt p) (8 * cells c) h ∙ ap (λ (l : List ℕ). l ++ back) e
+  block-there = block-starts h (record { cell = p; class = c; block = b }) e
 
-  list-there : drop (listAt p) h ≡ recordBytes (b .list) ++ (replicate (8 * (capacity c - length (b .list))) 0 ++ back)
-  unfolding blockBytes bytes32 bytes16
+  -- ---- the list
+
+  -- what lies behind the records
+  rest : List ℕ
+  rest = replicate (8 * (capacity c - length (b .list))) 0 ++ back
+
+  list-there : drop (listAt p) h ≡ recordBytes (b .list) ++ rest
+  unfolding rest blockBytes bytes32 bytes16
   list-there = sym (drop-drop 8 (cellAt p) h) ∙ ap (drop 8) block-there ∙ append-assoc (recordBytes (b .list)) (replicate (8 * (capacity c - length (b .list))) 0) back
+
+  pub block-list : records h (listAt p) (length (b .list)) ≡ b .list
+  block-list = block-records h p c b back block-there s
+
+  pub block-list-bytes : part h (listAt p) (8 * length (b .list)) ≡ recordBytes (b .list)
+  block-list-bytes = part-first h (recordBytes (b .list)) rest (listAt p) (8 * length (b .list)) list-there (length-encode (b .list))
+
+  -- its first j records, and those behind
+  cut : (j : ℕ) → drop (listAt p) h ≡ recordBytes (take j (b .list)) ++ (recordBytes (drop j (b .list)) ++ rest)
+  cut j =
+      let xs : List Record = take j (b .list) in
+      let ys : List Record = drop j (b .list) in
+      list-there ∙ ap (λ (l : List Record). recordBytes l ++ rest) (sym (take-append-drop j (b .list))) ∙ ap (λ (l : List ℕ). l ++ rest) (bytes-append xs ys)
+      ∙ append-assoc (recordBytes xs) (recordBytes ys) rest
+
+  front : (j : ℕ) → j ≤ length (b .list) → part h (listAt p) (8 * j) ≡ recordBytes (take j (b .list))
+  front j g = part-first h (recordBytes (take j (b .list))) (recordBytes (drop j (b .list)) ++ rest) (listAt p) (8 * j) (cut j) (length-front j (b .list) g)
+
+  behind : (j : ℕ) → j ≤ length (b .list) → part h (listAt p + 8 * j) (8 * (length (b .list) - j)) ≡ recordBytes (drop j (b .list))
+  behind j g =
+      let k : ℕ = length (b .list) - j in
+      part-in h (recordBytes (take j (b .list))) (recordBytes (drop j (b .list))) rest (listAt p) (8 * j) (8 * k) (cut j) (length-front j (b .list) g)
+      (length-encode (drop j (b .list)) ∙ ap (λ (m : ℕ). 8 * m) (length-drop j (b .list)))
+
+  -- ---- the changed list made aside
+
+  pub insert-aside-is : (r : Record) → grown h p (length (b .list)) (rank (key r) (b .list)) r ≡ recordBytes (insert r (b .list))
+  unfolding grown
+  insert-aside-is r =
+      let j : ℕ = rank (key r) (b .list) in
+      let g : j ≤ length (b .list) = rank-length (key r) (b .list) in
+      ap₂ (λ (x y : List ℕ). x ++ (bytesOf r ++ y)) (front j g) (behind j g)
+      ∙ sym (ap recordBytes (insert-at r (b .list)) ∙ bytes-mid (take j (b .list)) r (drop j (b .list)))
+
+  pub remove-aside-is : (k : ℕ) → held (look k (b .list)) ≡ true → shrunk h p (length (b .list)) (rank k (b .list)) ≡ recordBytes (remove k (b .list))
+  unfolding shrunk
+  remove-aside-is k v =
+      let n : ℕ = length (b .list) in
+      let j : ℕ = rank k (b .list) in
+      let g : j < n = rank-held k (b .list) v in
+      let x : listAt p + 8 * j + 8 ≡ listAt p + 8 * suc j = omega arith in
+      let y : n - (j + 1) ≡ n - suc j = omega arith in
+      ap₂ (λ (x y : List ℕ). x ++ y) (front j (omega arith)) (ap₂ (λ (x y : ℕ). part h x (8 * y)) x y ∙ behind (suc j) g)
+      ∙ sym (ap recordBytes (remove-at 0 k (b .list) (s .rising) v) ∙ bytes-append (take j (b .list)) (drop (suc j) (b .list)))
+
+  -- ---- the list changed in its block
 
   length-lead : length lead ≡ cellAt p
   unfolding lead
@@ -298,20 +313,6 @@ module _ (h : List ℕ) (p c : ℕ) (b : Block) (s : Sits c b) (e : part h (cell
       ∙ over-behind lead (header t (length (b .list)) ++ (bs ++ (r ++ back))) (cellAt p) 4 (bytes16 (length xs)) length-lead
       ∙ ap (λ (x : List ℕ). lead ++ x) (header-count t (length (b .list)) (length xs) (bs ++ (r ++ back)) ∙ ap (λ (x : List ℕ). header t (length xs) ++ x) (joined xs r bs d))
       ∙ sym (block-over xs q)
-
-  -- ---- the list, and its edits
-
-  pub block-list : records h (listAt p) (length (b .list)) ≡ b .list
-  block-list = block-records h p c b back block-there s
-
-  pub block-list-bytes : part h (listAt p) (8 * length (b .list)) ≡ recordBytes (b .list)
-  block-list-bytes = list-bytes h p (b .list) (replicate (8 * (capacity c - length (b .list))) 0 ++ back) list-there
-
-  pub insert-aside-is : (r : Record) → grown h p (length (b .list)) (rank (key r) (b .list)) r ≡ recordBytes (insert r (b .list))
-  insert-aside-is r = grown-bytes h p (b .list) (replicate (8 * (capacity c - length (b .list))) 0 ++ back) list-there r
-
-  pub remove-aside-is : (k : ℕ) → held (look k (b .list)) ≡ true → shrunk h p (length (b .list)) (rank k (b .list)) ≡ recordBytes (remove k (b .list))
-  remove-aside-is k v = shrunk-bytes h p (b .list) (replicate (8 * (capacity c - length (b .list))) 0 ++ back) list-there k (s .rising) v
 
   pub insert-here-is : (r : Record) → suc (length (b .list)) ≤ capacity c
       → insertedHere h p (length (b .list)) (rank (key r) (b .list)) r ≡ over h (cellAt p) (blockBytes c (holding b (insert r (b .list))))

@@ -3,7 +3,6 @@ use records::Record;
 ghost use mathlib.Core.Path.{_≡_};
 ghost use Prim.Native.Nat.{_+_, _-_, _*_, _≤_, _<_};
 ghost use lib.ListN.{length};
-ghost use Rattle.home.specs.Bytes.{cellAt};
 ghost use Rattle.zones.specs.Lists.{listAt, insertedHere, removedHere, setHere, grown, shrunk};
 
 // Puts a record in at rank j of the n records of the block at cell p, which has a free cell behind them.

@@ -1,4 +1,3 @@
-use mathlib.Core.Path.{_∙_}
 use native.Mathlib.Omega.{arith}
 use Rattle.zones.specs.ListsLaws.{inserted-copy}
 use borrow.Author.Needs.{needs}
