@@ -3,11 +3,11 @@ use mathlib.Core.Path.{_≡_, refl, sym, ap, ap₂, _∙_, subst}
 use mathlib.Core.Bool.{Bool, true, false}
 use mathlib.Core.Option.{Option, none, some, Option·map}
 use mathlib.Core.List.{List, [], _∷_, _++_, append-assoc}
-use Prim.Native.Nat.{ℕ, zero, suc, _+_, _*_, _-_, _/_, _≤_, _<_}
+use Prim.Native.Nat.{ℕ, suc, _+_, _*_, _-_, _/_, _≤_, _<_}
 use native.Mathlib.Omega.{arith}
 use native.Mathlib.Numerals.{add-one}
 use borrow.Author.Tests.{ne-eqb}
-use lib.ListN.{length, take, drop, getD, replicate, length-append}
+use lib.ListN.{length, take, getD, replicate, length-append}
 use Rattle.wire.specs.Bytes.{over, get16, bytes16, bytes32, Bytes}
 use Rattle.wire.specs.BytesLaws.{over-append}
 use Rattle.wire.specs.Cases.{never}
@@ -22,7 +22,7 @@ use Rattle.home.specs.PermLaws.{plength}
 use Rattle.home.specs.Layout.{Sits, Fit, Valid}
 use Rattle.home.specs.Cases.{Holds}
 use Rattle.home.specs.FindLaws.{Lacks, lacks-has}
-use Rattle.home.specs.PlaceLaws.{length-snoc, Placed, place-valid}
+use Rattle.home.specs.PlaceLaws.{length-snoc, place-valid}
 use Rattle.home.specs.Lookup.{Ordered}
 use Rattle.home.specs.AreaLaws.{fit-le}
 use Rattle.home.specs.HomeLaws.{length-dictionary}
@@ -64,10 +64,10 @@ module _ (h : List ℕ) (s : Stored h) where
   pub stored-long : length h ≡ 1664 + 64 * pagesOf h
   stored-long = ap length (s .bytes) ∙ length-loose (pagesOf h) (s .pages) (decode h) (s .loose)
 
-  pub end-low : (c : ℕ) → c ≤ 30 → endAfter 0 0 (take c (decode h)) ≤ 8192
+  end-low : (c : ℕ) → c ≤ 30 → endAfter 0 0 (take c (decode h)) ≤ 8192
   end-low c g = open-small (pagesOf h) h (decode h) c (endAfter 0 0 (take c (decode h))) (record { pages = s .pages; bytes = s .bytes; loose = s .loose; class = g; end = refl })
 
-  pub zone-is : (c : ℕ) → c < 30 → (firstAt h c ≡ firstOf (getD (decode h) c empty)) × (manyAt h c ≡ manyOf (getD (decode h) c empty))
+  zone-is : (c : ℕ) → c < 30 → (firstAt h c ≡ firstOf (getD (decode h) c empty)) × (manyAt h c ≡ manyOf (getD (decode h) c empty))
   zone-is c g =
       let z : Zone = getD (decode h) c empty in
       subst (λ (l : List ℕ). (firstAt l c ≡ firstOf z) × (manyAt l c ≡ manyOf z)) (sym (s .bytes)) (zone-at (pagesOf h) (s .pages) (decode h) (s .loose) c g)
@@ -244,7 +244,7 @@ module _ (R : ℕ) (small : R ≤ 1024) (h : List ℕ) (b : Block) (ls : List Zo
       })
 
 -- zone c has n blocks from f on
-pub record Places (R : ℕ) (h : List ℕ) (zs : List Zone) (b : Block) (c p f n : ℕ) : Type 0 where
+record Places (R : ℕ) (h : List ℕ) (zs : List Zone) (b : Block) (c p f n : ℕ) : Type 0 where
   pub answer : made (above R zs (suc c) (p + cells c)) ≡ made (place cells (8 * R) 0 0 c b zs)
   pub fails : made (above R zs (suc c) (p + cells c)) ≡ false → settled R h (take (suc c) zs) (above R zs (suc c) (p + cells c)) ≡ settled R h [] (place cells (8 * R) 0 0 c b zs)
   pub puts : made (above R zs (suc c) (p + cells c)) ≡ true → Puts (settled R h (take (suc c) zs) (above R zs (suc c) (p + cells c))) (settled R h [] (place cells (8 * R) 0 0 c b zs)) (b .tag) (blockBytes c b) c p f n
@@ -280,7 +280,7 @@ places-at R small h b ls z hs v s l g =
           (put-in R small h b ls z hs v s l g o m place-is (ap made (sym above-is) ∙ t)));
     }
 
-pub zone-places : (R : ℕ) → R ≤ 1024 → (h : List ℕ) (zs : List Zone) (b : Block) (c p f n : ℕ) → Valid (8 * R) zs → Sits c b → Lacks (b .tag) (blocks zs) → length (blocks zs) < 256
+zone-places : (R : ℕ) → R ≤ 1024 → (h : List ℕ) (zs : List Zone) (b : Block) (c p f n : ℕ) → Valid (8 * R) zs → Sits c b → Lacks (b .tag) (blocks zs) → length (blocks zs) < 256
     → c < 30 → p ≡ endAfter 0 0 (take (suc c) zs) → f ≡ firstOf (getD zs c empty) → n ≡ manyOf (getD zs c empty) → Places R h zs b c p f n
 zone-places R small h zs b c p f n v s l g u =
     at-zone zs c (omega (arith, v .classes))
