@@ -35,7 +35,8 @@ use Rattle.zones.specs.Moves.{zoned, entered}
 use Rattle.zones.specs.StateLaws.{state, state-tags, state-ordered, state-written}
 use Rattle.zones.specs.HomeLaws.{Loose, length-zones, fine, encode-state}
 use Rattle.zones.specs.StepLaws.{firstOf, manyOf, home-placed}
-use Rattle.zones.specs.Room.{made, settled, above, endAfter, Stored, Ready, hasRoom, roomed}
+use Rattle.zones.specs.Room.{settled, above, endAfter, Stored, Ready, hasRoom, roomed}
+use Rattle.room.specs.Spans.{isSome}
 use Rattle.zones.specs.LooseLaws.{zone-at, length-loose, fit-lower, fit-above, blocks-append, loose-joined, Shifted, shift-fit}
 use Rattle.zones.specs.RoomLaws.{at-zone, take-here, take-next, drop-next, zone-here, end-next}
 use Rattle.zones.specs.CodeLaws.{open-small}
@@ -227,9 +228,9 @@ module _ (R : ℕ) (small : R ≤ 1024) (h : List ℕ) (b : Block) (ls : List Zo
   count : (r : List Zone) → length (blocks (ls ++ z ∷ r)) ≡ length (blocks ks) + length (blocks r)
   count r = ap (λ (l : List Zone). length (blocks l)) (sym (append-assoc ls (z ∷ []) r)) ∙ ap length (blocks-append ks r) ∙ length-append (blocks ks) (blocks r)
 
-  put-in : (o : Option (List Zone)) → Holds (Shifted (8 * R) (suc k) (to + cells k) hs) o → place cells (8 * R) 0 0 k b (ls ++ z ∷ hs) ≡ Option·map (joined e b ls z) o → made o ≡ true
+  put-in : (o : Option (List Zone)) → Holds (Shifted (8 * R) (suc k) (to + cells k) hs) o → place cells (8 * R) 0 0 k b (ls ++ z ∷ hs) ≡ Option·map (joined e b ls z) o → isSome o ≡ true
       → Puts (settled R h ks o) (settled R h [] (Option·map (joined e b ls z) o)) (b .tag) (blockBytes k b) k to (firstOf z) (manyOf z)
-  unfolding made settled
+  unfolding isSome settled
   put-in none m q t = never t
   put-in (some hs') m q t =
       let v₁ : Loose R (ls ++ z ∷ hs') = subst (Loose R) (append-assoc ls (z ∷ []) hs') (roomy hs' m) in
@@ -245,17 +246,17 @@ module _ (R : ℕ) (small : R ≤ 1024) (h : List ℕ) (b : Block) (ls : List Zo
 
 -- zone c has n blocks from f on
 record Places (R : ℕ) (h : List ℕ) (zs : List Zone) (b : Block) (c p f n : ℕ) : Type 0 where
-  pub answer : made (above R zs (suc c) (p + cells c)) ≡ made (place cells (8 * R) 0 0 c b zs)
-  pub fails : made (above R zs (suc c) (p + cells c)) ≡ false → settled R h (take (suc c) zs) (above R zs (suc c) (p + cells c)) ≡ settled R h [] (place cells (8 * R) 0 0 c b zs)
-  pub puts : made (above R zs (suc c) (p + cells c)) ≡ true → Puts (settled R h (take (suc c) zs) (above R zs (suc c) (p + cells c))) (settled R h [] (place cells (8 * R) 0 0 c b zs)) (b .tag) (blockBytes c b) c p f n
+  pub answer : isSome (above R zs (suc c) (p + cells c)) ≡ isSome (place cells (8 * R) 0 0 c b zs)
+  pub fails : isSome (above R zs (suc c) (p + cells c)) ≡ false → settled R h (take (suc c) zs) (above R zs (suc c) (p + cells c)) ≡ settled R h [] (place cells (8 * R) 0 0 c b zs)
+  pub puts : isSome (above R zs (suc c) (p + cells c)) ≡ true → Puts (settled R h (take (suc c) zs) (above R zs (suc c) (p + cells c))) (settled R h [] (place cells (8 * R) 0 0 c b zs)) (b .tag) (blockBytes c b) c p f n
 
-made-with : (w : List Zone → List Zone) (o : Option (List Zone)) → made o ≡ made (Option·map w o)
-unfolding made
+made-with : (w : List Zone → List Zone) (o : Option (List Zone)) → isSome o ≡ isSome (Option·map w o)
+unfolding isSome
 made-with w none = refl
 made-with w (some r) = refl
 
-failed-with : (R : ℕ) (h : List ℕ) (ls : List Zone) (w : List Zone → List Zone) (o : Option (List Zone)) → made o ≡ false → settled R h ls o ≡ settled R h [] (Option·map w o)
-unfolding made settled
+failed-with : (R : ℕ) (h : List ℕ) (ls : List Zone) (w : List Zone → List Zone) (o : Option (List Zone)) → isSome o ≡ false → settled R h ls o ≡ settled R h [] (Option·map w o)
+unfolding isSome settled
 failed-with R h ls w none t = refl
 failed-with R h ls w (some r) t = never (sym t)
 
@@ -273,11 +274,11 @@ places-at R small h b ls z hs v s l g =
     let room-is : settled R h (take (suc c) zs) (above R zs (suc c) (p + cells c)) ≡ settled R h (ls ++ z ∷ []) o = ap₂ (settled R h) (take-next ls z hs) above-is in
     let m : Holds (Shifted (8 * R) (suc c) (p + cells c) hs) o = shift-fit (8 * R) (suc c) p (p + cells c) hs (stood R small h b ls z hs v s l g) (omega arith) (omega (arith, cells-mono c)) in
     record {
-      answer = ap made above-is ∙ made-with (joined e₀ b ls z) o ∙ ap made (sym place-is);
-      fails = λ t. room-is ∙ failed-with R h (ls ++ z ∷ []) (joined e₀ b ls z) o (ap made (sym above-is) ∙ t) ∙ ap (settled R h []) (sym place-is);
+      answer = ap isSome above-is ∙ made-with (joined e₀ b ls z) o ∙ ap isSome (sym place-is);
+      fails = λ t. room-is ∙ failed-with R h (ls ++ z ∷ []) (joined e₀ b ls z) o (ap isSome (sym above-is) ∙ t) ∙ ap (settled R h []) (sym place-is);
       puts = λ t. subst (λ (x : List ℕ). Puts x (settled R h [] (place cells (8 * R) 0 0 c b zs)) (b .tag) (blockBytes c b) c p (firstOf z) (manyOf z)) (sym room-is)
           (subst (λ (x : List ℕ). Puts (settled R h (ls ++ z ∷ []) o) x (b .tag) (blockBytes c b) c p (firstOf z) (manyOf z)) (ap (settled R h []) (sym place-is))
-          (put-in R small h b ls z hs v s l g o m place-is (ap made (sym above-is) ∙ t)));
+          (put-in R small h b ls z hs v s l g o m place-is (ap isSome (sym above-is) ∙ t)));
     }
 
 zone-places : (R : ℕ) → R ≤ 1024 → (h : List ℕ) (zs : List Zone) (b : Block) (c p f n : ℕ) → Valid (8 * R) zs → Sits c b → Lacks (b .tag) (blocks zs) → length (blocks zs) < 256
@@ -368,18 +369,18 @@ module _ (h : List ℕ) (t : ℕ) (bs : List ℕ) (c p k f n : ℕ) (l : Placing
       ∙ block-is c t (recordsIn bs) (omega (arith, placing-fits, l .able .whole, length-records bs 0 (length bs / 8))))
 
   pub placing-none : (r : Bool) (h' : List ℕ) → r ≡ false → r ≡ hasRoom h (c + 1) (p + k) → h' ≡ roomed h (c + 1) (p + k)
-      → (false ≡ made (placedIn h t bs)) × (h' ≡ settled R h [] (placedIn h t bs))
+      → (false ≡ isSome (placedIn h t bs)) × (h' ≡ settled R h [] (placedIn h t bs))
   placing-none r h' q a b =
       let a' : r ≡ hasRoom h (suc c) (p + cells c) = rw (add-one, l .size) at a in
       let b' : h' ≡ roomed h (suc c) (p + cells c) = rw (add-one, l .size) at b in
-      (sym q ∙ a' ∙ places .answer ∙ ap made placed-is, b' ∙ places .fails (sym a' ∙ q) ∙ ap (settled R h []) placed-is)
+      (sym q ∙ a' ∙ places .answer ∙ ap isSome placed-is, b' ∙ places .fails (sym a' ∙ q) ∙ ap (settled R h []) placed-is)
 
   pub placing-puts : (r : Bool) (h' : List ℕ) → r ≡ true → r ≡ hasRoom h (c + 1) (p + k) → h' ≡ roomed h (c + 1) (p + k)
-      → (true ≡ made (placedIn h t bs)) × Puts h' (settled R h [] (placedIn h t bs)) t (blockOf c t bs) c p f n
+      → (true ≡ isSome (placedIn h t bs)) × Puts h' (settled R h [] (placedIn h t bs)) t (blockOf c t bs) c p f n
   placing-puts r h' q a b =
       let a' : r ≡ hasRoom h (suc c) (p + cells c) = rw (add-one, l .size) at a in
       let b' : h' ≡ roomed h (suc c) (p + cells c) = rw (add-one, l .size) at b in (
-        sym q ∙ a' ∙ places .answer ∙ ap made placed-is,
+        sym q ∙ a' ∙ places .answer ∙ ap isSome placed-is,
         subst (λ (x : List ℕ). Puts x (settled R h [] (placedIn h t bs)) t (blockOf c t bs) c p f n) (sym b')
             (subst (λ (x : List ℕ). Puts (roomed h (suc c) (p + cells c)) (settled R h [] (placedIn h t bs)) t x c p f n) written-is
             (subst (λ (x : Option (List Zone)). Puts (roomed h (suc c) (p + cells c)) (settled R h [] x) t (blockBytes c block) c p f n) placed-is (places .puts (sym a' ∙ q)))),

@@ -11,12 +11,8 @@ use Rattle.home.specs.Capacities.{cells}
 use Rattle.home.specs.Zones.{Zone, endOf, shift}
 use Rattle.home.specs.Bytes.{encode, decode}
 use Rattle.home.specs.Sound.{pagesOf}
+use Rattle.room.specs.Spans.{isSome}
 use Rattle.zones.specs.HomeLaws.{Loose}
-
--- is there an answer
-unfoldable pub made : Option (List Zone) → Bool
-made none = false
-made (some zs) = true
 
 -- home's bytes with these zones above ls, or as they were
 unfoldable pub settled : ℕ → List ℕ → List Zone → Option (List Zone) → List ℕ
@@ -28,7 +24,7 @@ abbrev pub above : ℕ → List Zone → ℕ → ℕ → Option (List Zone)
 above R zs c e = shift cells (8 * R) c e (drop c zs)
 
 abbrev pub hasRoom : List ℕ → ℕ → ℕ → Bool
-hasRoom h c e = made (above (pagesOf h) (decode h) c e)
+hasRoom h c e = isSome (above (pagesOf h) (decode h) c e)
 
 abbrev pub roomed : List ℕ → ℕ → ℕ → List ℕ
 roomed h c e = settled (pagesOf h) h (take c (decode h)) (above (pagesOf h) (decode h) c e)

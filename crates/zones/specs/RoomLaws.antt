@@ -25,7 +25,8 @@ use Rattle.zones.specs.Moves.{Movable, zoned, moved}
 use Rattle.zones.specs.SpotLaws.{spot, in-context, liftedTo, liftedFirst, lifted-spots}
 use Rattle.zones.specs.HomeLaws.{Loose}
 use Rattle.zones.specs.StepLaws.{firstOf, manyOf, home-lifted}
-use Rattle.zones.specs.Room.{made, settled, above, endAfter, liftTo, liftFirst, Ready}
+use Rattle.zones.specs.Room.{settled, above, endAfter, liftTo, liftFirst, Ready}
+use Rattle.room.specs.Spans.{isSome}
 use Rattle.zones.specs.LooseLaws.{movable, zone-at, length-loose, fit-lower, fit-above, loose-joined, Shifted, shift-fit}
 
 -- ---- a layout at zone c
@@ -65,10 +66,10 @@ end-next c e k (y ∷ ls) z q = end-next (suc c) (endOf cells c e y) k ls z (ome
 
 -- ---- answers and bytes
 
-made-map : (z : Zone) (o : Option (List Zone)) → made (Option·map (λ (r : List Zone). z ∷ r) o) ≡ made o
-unfolding made
-made-map z none = refl
-made-map z (some zs) = refl
+some-map : (z : Zone) (o : Option (List Zone)) → isSome (Option·map (λ (r : List Zone). z ∷ r) o) ≡ isSome o
+unfolding isSome
+some-map z none = refl
+some-map z (some zs) = refl
 
 settled-map : (R : ℕ) (h : List ℕ) (ls : List Zone) (z : Zone) (o : Option (List Zone)) → settled R h ls (Option·map (λ (r : List Zone). z ∷ r) o) ≡ settled R h (ls ++ z ∷ []) o
 unfolding settled
@@ -118,12 +119,12 @@ shift-lifts n c e f x xs zs g = shift-over n c e f x xs zs g ∙ ap (λ (k : ℕ
 
 -- ---- the last zone is passed
 
-pub room-end : (R : ℕ) (h : List ℕ) (zs : List Zone) (e : ℕ) → Ready R h zs 30 e → (made (above R zs 30 e) ≡ leb e (8 * R)) × (settled R h (take 30 zs) (above R zs 30 e) ≡ h)
-unfolding made settled shift
+pub room-end : (R : ℕ) (h : List ℕ) (zs : List Zone) (e : ℕ) → Ready R h zs 30 e → (isSome (above R zs 30 e) ≡ leb e (8 * R)) × (settled R h (take 30 zs) (above R zs 30 e) ≡ h)
+unfolding isSome settled shift
 room-end R h zs e r =
     let d : drop 30 zs ≡ [] = drop-of-length-le zs {i = 30} (omega (arith, r .loose .classes)) in
     let w : take 30 zs ++ [] ≡ zs = ap (λ (l : List Zone). take 30 zs ++ l) (sym d) ∙ take-append-drop 30 zs in
-    rw d (by-pick (λ (o : Option (List Zone)). (made o ≡ leb e (8 * R)) × (settled R h (take 30 zs) o ≡ h)) (leb e (8 * R))
+    rw d (by-pick (λ (o : Option (List Zone)). (isSome o ≡ leb e (8 * R)) × (settled R h (take 30 zs) o ≡ h)) (leb e (8 * R))
     (λ t. (sym t, ap (encode R) w ∙ sym (r .bytes))) (λ t. (sym t, refl)))
 
 -- ---- at zone c
@@ -137,7 +138,7 @@ pub record Moves (R : ℕ) (h h' : List ℕ) (c e f n : ℕ) : Type 0 where
 
 pub record Same (R : ℕ) (h : List ℕ) (zs : List Zone) (c e : ℕ) : Type 0 where
   pub ready : Ready R h zs (suc c) e
-  pub answer : made (above R zs c e) ≡ made (above R zs (suc c) e)
+  pub answer : isSome (above R zs c e) ≡ isSome (above R zs (suc c) e)
   pub bytes : settled R h (take c zs) (above R zs c e) ≡ settled R h (take (suc c) zs) (above R zs (suc c) e)
 
 module _ (R : ℕ) (h : List ℕ) (e : ℕ) where
@@ -163,19 +164,19 @@ module _ (R : ℕ) (h : List ℕ) (e : ℕ) where
         let here : endAfter 0 0 (take c zs) ≡ endAfter 0 0 ls = ap (endAfter 0 0) (take-here ls empty hs) in
         record {
           ready = record { pages = r .pages; bytes = r .bytes; loose = r .loose; class = g; low = omega (arith, r .low, here, end-of empty); high = omega (arith, r .high, here, end-of empty, cells-mono c) };
-          answer = ap made now ∙ made-map empty o ∙ ap made (sym next);
+          answer = ap isSome now ∙ some-map empty o ∙ ap isSome (sym next);
           bytes = ap₂ (settled R h) (take-here ls empty hs) now ∙ settled-map R h ls empty o ∙ sym (ap₂ (settled R h) (take-next ls empty hs) next);
         }
 
     -- a zone behind e stays
     stays : (z : Zone) → Ready R h (ls ++ z ∷ hs) c e → (manyAt h c ≡ 0 → ⊥) → e ≤ firstAt h c
-        → (made (above R (ls ++ z ∷ hs) c e) ≡ true) × (settled R h (take c (ls ++ z ∷ hs)) (above R (ls ++ z ∷ hs) c e) ≡ h)
-    unfolding manyOf firstOf made settled
+        → (isSome (above R (ls ++ z ∷ hs) c e) ≡ true) × (settled R h (take c (ls ++ z ∷ hs)) (above R (ls ++ z ∷ hs) c e) ≡ h)
+    unfolding manyOf firstOf isSome settled
     stays empty r m b = absurd (m (read empty r .1))
     stays (from f x xs) r m b =
         let z : Zone = from f x xs in
         let now : above R (ls ++ z ∷ hs) c e ≡ some (z ∷ hs) = ap (shift cells (8 * R) c e) (drop-here ls z hs) ∙ shift-stays (8 * R) c e f x xs hs (omega (arith, read z r .0)) in
-        (ap made now, ap₂ (settled R h) (take-here ls z hs) now ∙ sym (r .bytes))
+        (ap isSome now, ap₂ (settled R h) (take-here ls z hs) now ∙ sym (r .bytes))
 
 pub zone-passed : (R : ℕ) (h : List ℕ) (zs : List Zone) (c e : ℕ) → Ready R h zs c e → c < 30 → manyAt h c ≡ 0 → Same R h zs c e
 zone-passed R h zs c e r g m =
@@ -183,10 +184,10 @@ zone-passed R h zs c e r g m =
     (λ ls z hs b. passed R h e ls hs b z) g r m
 
 pub zone-stays : (R : ℕ) (h : List ℕ) (zs : List Zone) (c e : ℕ) → Ready R h zs c e → c < 30 → (manyAt h c ≡ 0 → ⊥) → e ≤ firstAt h c
-    → (made (above R zs c e) ≡ true) × (settled R h (take c zs) (above R zs c e) ≡ h)
+    → (isSome (above R zs c e) ≡ true) × (settled R h (take c zs) (above R zs c e) ≡ h)
 zone-stays R h zs c e r g m b =
     at-zone zs c (omega (arith, r .loose .classes))
-    (λ (l : List Zone) (k : ℕ). k < 30 → Ready R h l k e → (manyAt h k ≡ 0 → ⊥) → e ≤ firstAt h k → (made (above R l k e) ≡ true) × (settled R h (take k l) (above R l k e) ≡ h))
+    (λ (l : List Zone) (k : ℕ). k < 30 → Ready R h l k e → (manyAt h k ≡ 0 → ⊥) → e ≤ firstAt h k → (isSome (above R l k e) ≡ true) × (settled R h (take k l) (above R l k e) ≡ h))
     (λ ls z hs b'. stays R h e ls hs b' z) g r m b
 
 -- ---- its first block is lifted off
@@ -202,9 +203,9 @@ module _ (R : ℕ) (small : R ≤ 1024) (h : List ℕ) (e : ℕ) (ls : List Zone
   up = lifted cells class e f x xs
 
   lifted-off : (o : Option (List Zone)) → f + suc (length xs) * cells class ≤ to + cells class → Holds (Shifted (8 * R) (suc class) (to + cells class) hs) o
-      → Holds (Shifted (8 * R) class e (from f x xs ∷ hs)) (Option·map (λ (r : List Zone). up ∷ r) o) → made o ≡ true
+      → Holds (Shifted (8 * R) class e (from f x xs ∷ hs)) (Option·map (λ (r : List Zone). up ∷ r) o) → isSome o ≡ true
       → Moves R (settled R h (ls ++ from f x xs ∷ []) o) (settled R h ls (Option·map (λ (r : List Zone). up ∷ r) o)) class e f (suc (length xs))
-  unfolding made settled blocks spots row
+  unfolding isSome settled blocks spots row
   lifted-off none b k m t = never t
   lifted-off (some hs') b k m t =
       let z : Zone = from f x xs in
@@ -232,9 +233,9 @@ module _ (R : ℕ) (small : R ≤ 1024) (h : List ℕ) (e : ℕ) (ls : List Zone
 -- f is zone c's first cell, n its number of blocks
 pub record Lifts (R : ℕ) (h : List ℕ) (zs : List Zone) (c e f n : ℕ) : Type 0 where
   pub ready : Ready R h zs (suc c) (liftTo e f n (cells c) + cells c)
-  pub answer : made (above R zs c e) ≡ made (above R zs (suc c) (liftTo e f n (cells c) + cells c))
-  pub fails : made (above R zs (suc c) (liftTo e f n (cells c) + cells c)) ≡ false → settled R h (take (suc c) zs) (above R zs (suc c) (liftTo e f n (cells c) + cells c)) ≡ settled R h (take c zs) (above R zs c e)
-  pub moves : made (above R zs (suc c) (liftTo e f n (cells c) + cells c)) ≡ true
+  pub answer : isSome (above R zs c e) ≡ isSome (above R zs (suc c) (liftTo e f n (cells c) + cells c))
+  pub fails : isSome (above R zs (suc c) (liftTo e f n (cells c) + cells c)) ≡ false → settled R h (take (suc c) zs) (above R zs (suc c) (liftTo e f n (cells c) + cells c)) ≡ settled R h (take c zs) (above R zs c e)
+  pub moves : isSome (above R zs (suc c) (liftTo e f n (cells c) + cells c)) ≡ true
       → Moves R (settled R h (take (suc c) zs) (above R zs (suc c) (liftTo e f n (cells c) + cells c))) (settled R h (take c zs) (above R zs c e)) c e f n
 
 -- above where the zone ended, by less than a block of the next class
@@ -246,8 +247,8 @@ to-high : (e f k m : ℕ) (xs : List Block) → e ≤ f + k → k ≤ m → lift
 to-high e f k m [] g b = omega (arith, to-one e f k)
 to-high e f k m (y ∷ ys) g b = omega (arith, to-more e f (length ys) k)
 
-failed : (R : ℕ) (h : List ℕ) (ls ls' : List Zone) (z : Zone) (o : Option (List Zone)) → made o ≡ false → settled R h ls' o ≡ settled R h ls (Option·map (λ (r : List Zone). z ∷ r) o)
-unfolding made settled
+failed : (R : ℕ) (h : List ℕ) (ls ls' : List Zone) (z : Zone) (o : Option (List Zone)) → isSome o ≡ false → settled R h ls' o ≡ settled R h ls (Option·map (λ (r : List Zone). z ∷ r) o)
+unfolding isSome settled
 failed R h ls ls' z none t = refl
 failed R h ls ls' z (some zs) t = never (sym t)
 
@@ -278,12 +279,12 @@ lifts R h e ls hs (from f x xs) g r m b =
     let s₀ : settled R h (take c zs) (above R zs c e) ≡ settled R h ls (Option·map (λ (y : List Zone). up ∷ y) o) = ap₂ (settled R h) (take-here ls z hs) now in
     let done : Lifts R h zs c e f n = record {
       ready = record { pages = r .pages; bytes = r .bytes; loose = r .loose; class = g; low = omega (arith, end-of R h e ls hs g z); high = omega (arith, end-of R h e ls hs g z) };
-      answer = ap made now ∙ made-map up o ∙ ap made (sym next);
-      fails = λ t. s₁ ∙ failed R h ls (ls ++ z ∷ []) up o (ap made (sym next) ∙ t) ∙ sym s₀;
+      answer = ap isSome now ∙ some-map up o ∙ ap isSome (sym next);
+      fails = λ t. s₁ ∙ failed R h ls (ls ++ z ∷ []) up o (ap isSome (sym next) ∙ t) ∙ sym s₀;
       moves = λ t. subst (λ (l : List ℕ). Moves R l (settled R h (take c zs) (above R zs c e)) c e f n) (sym s₁)
           (subst (λ (l : List ℕ). Moves R (settled R h (ls ++ z ∷ []) o) l c e f n) (sym s₀)
           (lifted-off R (r .pages) h e ls f x xs hs (r .loose) low o lo (shift-fit (8 * R) (suc c) (f + n * cells c) e' hs (stands .1) lo hi)
-          (subst (Holds (Shifted (8 * R) c e (z ∷ hs))) (shift-lifts (8 * R) c e f x xs hs fe) (shift-fit (8 * R) c e₀ e (z ∷ hs) stands low high)) (ap made (sym next) ∙ t)));
+          (subst (Holds (Shifted (8 * R) c e (z ∷ hs))) (shift-lifts (8 * R) c e f x xs hs fe) (shift-fit (8 * R) c e₀ e (z ∷ hs) stands low high)) (ap isSome (sym next) ∙ t)));
     } in
     subst (λ (k : ℕ). Lifts R h zs c e (firstAt h c) k) (sym (q .1)) (subst (λ (k : ℕ). Lifts R h zs c e k n) (sym (q .0)) done)
 

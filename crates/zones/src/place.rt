@@ -14,7 +14,8 @@ ghost use Rattle.wire.specs.Bytes.{over};
 ghost use Rattle.home.specs.Capacities.{cells as sizeOf};
 ghost use Rattle.home.specs.Bytes.{cellAt, decode};
 ghost use Rattle.home.specs.Sound.{pagesOf};
-ghost use Rattle.zones.specs.Room.{made, settled, endAfter, Stored};
+ghost use Rattle.zones.specs.Room.{settled, endAfter, Stored};
+ghost use Rattle.room.specs.Spans.{isSome};
 ghost use Rattle.zones.specs.Place.{blockOf, firstWith, placedIn, Placeable};
 
 // Where the zones below class c end: the end of the nearest nonempty one, or cell 0.
@@ -58,7 +59,7 @@ fn first_with(n: usize, f: usize, p: usize) -> usize
 // Places a block with this list for a tag that has none. Nothing is stored where there is no room.
 pub fn place(home: &mut [u8], tag: u32, list: &[u8]) -> bool
     requires { ⌜ Placeable (now home) tag (now list) ⌝ }
-    ensures { λ r. ⌜ (r ≡ made (placedIn (now (home .entry)) tag (now (list .entry)))) × (now (home .exit) ≡ settled (pagesOf (now (home .entry))) (now (home .entry)) [] (placedIn (now (home .entry)) tag (now (list .entry)))) ⌝ }
+    ensures { λ r. ⌜ (r ≡ isSome (placedIn (now (home .entry)) tag (now (list .entry)))) × (now (home .exit) ≡ settled (pagesOf (now (home .entry))) (now (home .entry)) [] (placedIn (now (home .entry)) tag (now (list .entry)))) ⌝ }
 {
     let c = class_of(list.len() / 8);
     let n = zone_count(home, c);
