@@ -62,6 +62,20 @@ not-held : (o : Option Record) → held o ≡ false → o ≡ none
 not-held none h = refl
 not-held (some r) h = never (sym h)
 
+-- what an edit makes of a list that may stand in a block may stand in one
+pub remove-listed : (k : ℕ) (rs : List Record) → Listed rs → Listed (remove k rs)
+remove-listed k rs l = record { rising = remove-rising 0 k rs (l .rising); fits = remove-fits k rs (l .fits); short = omega (arith, length-remove k rs, l .short) }
+
+pub amend-listed : (k m : ℕ) (rs : List Record) → m < 256 → Listed rs → Listed (amend k m rs)
+amend-listed k m rs b l = record { rising = amend-rising 0 k m rs (l .rising); fits = amend-fits k m rs b (l .fits); short = omega (arith, length-amend k m rs, l .short) }
+
+pub insert-listed : (r : Record) (rs : List Record) → Fits r → held (look (key r) rs) ≡ false → length rs < 989 → Listed rs → Listed (insert r rs)
+insert-listed r rs f h g l = record {
+  rising = insert-rising 0 r rs (omega arith) (not-held (look (key r) rs) h) (l .rising);
+  fits = insert-fits r rs f (l .fits);
+  short = omega (arith, length-insert r rs);
+}
+
 -- ---- the lists of a valid layout
 
 listed : (c : ℕ) (b : Block) → Sits c b → Listed (b .list)
@@ -129,17 +143,17 @@ settled-some n t m rs zs No none e f h = absurd f
 settled-some n t m rs zs No (some zs') e f h = (e, h)
 
 module _ (n t : ℕ) (zs : List Zone) (v : Valid n zs) (bt : t < 4294967296) where
-  abbrev Free : List Record → Type 0
+  abbrev pub Free : List Record → Type 0
   Free rs = Open cells classOf cells-mono cells-pos class-holds class-mono n t zs v bt rs
 
-  changed : (rs : List Record) → Listed rs → Free rs → Holds (Changed cells classOf t n rs zs) (change n t rs zs)
+  pub changed : (rs : List Record) → Listed rs → Free rs → Holds (Changed cells classOf t n rs zs) (change n t rs zs)
   changed rs l o = change-changed cells classOf cells-mono cells-pos class-holds class-mono n t zs v bt rs l o
 
-  shorter : (rs : List Record) → hasTag t (blocks zs) ≡ true → length rs ≤ length (find t (blocks zs)) → IsSome (change n t rs zs)
+  pub shorter : (rs : List Record) → hasTag t (blocks zs) ≡ true → length rs ≤ length (find t (blocks zs)) → IsSome (change n t rs zs)
   shorter rs i h = shorter-some cells classOf cells-mono cells-pos class-holds class-mono n t zs v bt rs i h
 
   -- a tag that is there may have any list
-  free-any : (rs : List Record) → hasTag t (blocks zs) ≡ true → Free rs
+  pub free-any : (rs : List Record) → hasTag t (blocks zs) ≡ true → Free rs
   free-any [] i = i
   free-any (r ∷ rs) i = λ k. never (sym k ∙ i)
 
@@ -155,9 +169,7 @@ module _ (n t : ℕ) (zs : List Zone) (v : Valid n zs) (bt : t < 4294967296) whe
       let l : Listed rs = valid-listed n t zs v in
       let b : length (remove k rs) ≤ length rs = length-remove k rs in
       by-pick (Ends n t (remove k rs) zs (λ (x : ℕ). x ≡ 9)) (held (look k rs))
-      (λ p. no-longer (length (remove k rs)) (remove k rs)
-      (record { rising = remove-rising 0 k rs (l .rising); fits = remove-fits k rs (l .fits); short = omega (arith, b, l .short) })
-      b (has-held t k (blocks zs) p) refl)
+      (λ p. no-longer (length (remove k rs)) (remove k rs) (remove-listed k rs l) b (has-held t k (blocks zs) p) refl)
       (λ p. (refl, refl))
 
   pub set-ends : (k m : ℕ) → m < 256 → Ends n t (amend k m (find t (blocks zs))) zs (λ (x : ℕ). x ≡ 9) (setMinutes n t k m zs)
@@ -167,9 +179,7 @@ module _ (n t : ℕ) (zs : List Zone) (v : Valid n zs) (bt : t < 4294967296) whe
       let l : Listed rs = valid-listed n t zs v in
       let e : length (amend k m rs) ≡ length rs = length-amend k m rs in
       by-pick (Ends n t (amend k m rs) zs (λ (x : ℕ). x ≡ 9)) (held (look k rs))
-      (λ p. no-longer (length rs) (amend k m rs)
-      (record { rising = amend-rising 0 k m rs (l .rising); fits = amend-fits k m rs bm (l .fits); short = omega (arith, e, l .short) })
-      (omega (arith, e)) (has-held t k (blocks zs) p) (sym e))
+      (λ p. no-longer (length rs) (amend k m rs) (amend-listed k m rs bm l) (omega (arith, e)) (has-held t k (blocks zs) p) (sym e))
       (λ p. (refl, refl))
 
   pub drop-ends : Ends n t [] zs (λ (x : ℕ). x ≡ 9) (dropTag n t zs)
@@ -197,12 +207,7 @@ module _ (n t : ℕ) (zs : List Zone) (v : Valid n zs) (bt : t < 4294967296) whe
       (λ p. by-pick (Ends n t (insert r rs) zs PutNo) (ltb (length rs) 989)
       (λ q. by-pick (Ends n t (insert r rs) zs PutNo) (hasTag t (blocks zs) || ltb (length (blocks zs)) 256)
       (λ o. settled n t (suc (length rs)) (insert r rs) zs PutNo (change n t (insert r rs) zs) (sym e) (omega arith)
-      (changed (insert r rs)
-      (record {
-        rising = insert-rising 0 r rs (omega arith) (not-held (look (key r) rs) p) (l .rising);
-        fits = insert-fits r rs f (l .fits);
-        short = omega (arith, e, ltb-true (length rs) 989 q);
-      })
+      (changed (insert r rs) (insert-listed r rs f p (ltb-true (length rs) 989 q) l)
       (free-new (insert r rs) (omega (arith, e)) o)))
       (λ o. (omega arith, refl)))
       (λ q. (omega arith, refl)))

@@ -12,8 +12,9 @@ use Rattle.wire.specs.All.{more}
 use Rattle.records.specs.declared.Record.{Record}
 use Rattle.home.specs.Capacities.{cells}
 use Rattle.home.specs.Zones.{Block, Zone, empty, from, zone, blocks, hasTag, find, turned, removed, replaced, rewritten, endOf, close, takeOut}
-use Rattle.home.specs.FindLaws.{Lacks, by-tag, has-here, has-skip, has-append, lacks-has}
+use Rattle.home.specs.FindLaws.{Lacks, by-tag, has-here, has-skip, has-append, lacks-has, find-here, find-later}
 use Rattle.zones.specs.Room.{endAfter}
+use Rattle.zones.specs.LooseLaws.{blocks-append, zone-blocks}
 use Rattle.zones.specs.Known.{lacking}
 
 -- ---- found
@@ -161,3 +162,10 @@ module _ (t : ℕ) (b : Block) (same : b .tag ≡ t) (behind : List Block) where
     rewritten-there rs (from g x xs ∷ ls) hs n =
         let m = has-neither t (x ∷ xs) (blocks ls) n in
         rw (m .0) (ap (λ (l : List Zone). from g x xs ∷ l) (rewritten-there rs ls hs (m .1)))
+
+    -- its list
+    pub find-there : (ls hs : List Zone) → hasTag t (blocks ls) ≡ false → find t (blocks (ls ++ zone f (before ++ b ∷ behind) ∷ hs)) ≡ b .list
+    find-there ls hs n =
+        ap (find t) (blocks-append ls (zone f (before ++ b ∷ behind) ∷ hs)) ∙ find-later t (blocks ls) (blocks (zone f (before ++ b ∷ behind) ∷ hs)) n
+        ∙ ap (find t) (zone-blocks f (before ++ b ∷ behind) hs ∙ append-assoc before (b ∷ behind) (blocks hs))
+        ∙ find-later t before (b ∷ (behind ++ blocks hs)) none ∙ find-here t b (behind ++ blocks hs) same

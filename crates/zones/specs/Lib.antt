@@ -22,3 +22,7 @@ pub mod Place
 pub mod PlaceLaws
 pub mod Lists
 pub mod ListsLaws
+pub mod Edits
+pub mod ListedLaws
+pub mod ChangedLaws
+pub mod RecordLaws

@@ -8,7 +8,7 @@ use lib.ListN.{length, getD, replicate, length-append}
 use borrow.Author.Tests.{leb-true, leb-false}
 use Rattle.home.specs.Capacities.{cells}
 use Rattle.home.specs.CapacitiesLaws.{cells-mono}
-use Rattle.home.specs.Zones.{Block, Zone, empty, from, blocks, lifted, endOf, shift}
+use Rattle.home.specs.Zones.{Block, Zone, empty, from, zone, blocks, lifted, endOf, shift}
 use Rattle.home.specs.Perm.{Perm, pnil, pskip, ptrans, Pairs, after}
 use Rattle.home.specs.PermLaws.{prefl, psym, pleft, pright, protate, plength, pall, ppairs}
 use Rattle.home.specs.Valid.{Other}
@@ -91,6 +91,11 @@ unfolding blocks
 blocks-append [] hs = refl
 blocks-append (empty ∷ ls) hs = blocks-append ls hs
 blocks-append (from f x xs ∷ ls) hs = ap (λ (l : List Block). x ∷ (xs ++ l)) (blocks-append ls hs) ∙ sym (append-assoc (x ∷ xs) (blocks ls) (blocks hs))
+
+pub zone-blocks : (f : ℕ) (bs : List Block) (hs : List Zone) → blocks (zone f bs ∷ hs) ≡ bs ++ blocks hs
+unfolding blocks zone
+zone-blocks f [] hs = refl
+zone-blocks f (x ∷ xs) hs = refl
 
 -- fitting zones with the same blocks instead
 pub loose-joined : (R : ℕ) (ls hs hs' : List Zone) → Loose R (ls ++ hs) → Fit (8 * R) (length ls) (endAfter 0 0 ls) hs' → Perm (blocks hs') (blocks hs) → length hs' ≡ length hs → Loose R (ls ++ hs')

@@ -34,16 +34,11 @@ use Rattle.zones.specs.Known.{Known, lacking, outBytes}
 use Rattle.zones.specs.KnownLaws.{lacking-there, takeOut-there}
 use Rattle.zones.specs.BlockLaws.{Lying, lying, known-spots, known-lying, others-of}
 use Rattle.zones.specs.StepLaws.{firstOf, manyOf, first-zone, many-zone, class-below, fill-spots, home-last-gone, home-place-filled}
-use Rattle.zones.specs.LooseLaws.{zone-at, movable, length-loose, blocks-append, fit-above, fit-joined, fit-lower}
+use Rattle.zones.specs.LooseLaws.{zone-at, zone-blocks, movable, length-loose, blocks-append, fit-above, fit-joined, fit-lower}
 
 -- the zone's other blocks: the last of those behind it first
 others : (pre : List Block) (b : Block) (post : List Block) → Perm (b ∷ (pre ++ turned post)) (pre ++ b ∷ post)
 others pre b post = ptrans (pskip b (pleft pre (turned-perm post))) (psym (pfront b pre post))
-
-zone-blocks : (f : ℕ) (bs : List Block) (hs : List Zone) → blocks (zone f bs ∷ hs) ≡ bs ++ blocks hs
-unfolding blocks zone
-zone-blocks f [] hs = refl
-zone-blocks f (x ∷ xs) hs = refl
 
 -- fewer blocks fit where more did
 fit-less : (n c e f : ℕ) (bs bs' : List Block) (hs : List Zone) → (b : Block) → Perm (b ∷ bs') bs → Fit n c e (zone f bs ∷ hs) → Fit n c e (zone f bs' ∷ hs)

@@ -25,8 +25,14 @@ module _ (h : List ℕ) (t : sound h ≡ true) where
   pub sound-small : pagesOf h ≤ 1024
   sound-small = let p : pagesOf h ≡ s .pages = sound-pages h s in omega (arith, s .high)
 
+  pub sound-some : 1 ≤ pagesOf h
+  sound-some = let p : pagesOf h ≡ s .pages = sound-pages h s in omega (arith, s .low)
+
+  pub sound-valid : Valid (8 * pagesOf h) (decode h)
+  sound-valid = rw (sound-pages h s, sound-zones h s) (s .valid)
+
   pub sound-loose : Loose (pagesOf h) (decode h)
-  sound-loose = subst (λ (R : ℕ). Loose R (decode h)) (sym (sound-pages h s)) (subst (λ (zs : List Zone). Loose (s .pages) zs) (sym (sound-zones h s)) (valid-loose (s .pages) (s .zones) (s .valid)))
+  sound-loose = valid-loose (pagesOf h) (decode h) sound-valid
 
   -- a block of class c or a lower one is put in below zone c
   pub sound-ready : (c e : ℕ) → c ≤ 30 → endAfter 0 0 (take c (decode h)) ≤ e → e ≤ endAfter 0 0 (take c (decode h)) + cells c → Ready (pagesOf h) h (decode h) c e
