@@ -3,11 +3,11 @@ use mathlib.Core.Path.{_≡_, refl, sym, ap, _∙_, subst}
 use mathlib.Core.Bool.{true}
 use mathlib.Core.Logic.{inl, inr}
 use mathlib.Core.List.{List, [], _∷_, _++_, map}
-use Prim.Native.Nat.{ℕ, suc, _+_, _*_, _≤_, _<_}
+use Prim.Native.Nat.{ℕ, suc, _+_, _*_, _≤_}
 use native.Mathlib.Omega.{arith}
 use lib.ListN.{length, drop}
 use Rattle.wire.specs.Bytes.{part, get16, get32}
-use Rattle.wire.specs.All.{All, all-head}
+use Rattle.wire.specs.All.{all-head}
 use Rattle.home.specs.Capacities.{cells, classOf}
 use Rattle.home.specs.Zones.{Block, Zone, zone, blocks, hasTag}
 use Rattle.home.specs.Perm.{Perm, In, Pairs, after}

@@ -4,12 +4,12 @@ use mathlib.Core.Bool.{true, false}
 use mathlib.Core.Logic.{_≢_}
 use mathlib.Core.Option.{Option, none, some}
 use mathlib.Core.List.{List, [], _∷_, _++_}
-use Prim.Native.Nat.{ℕ, suc, _+_, _*_, _/_, _≤_, _<_}
+use Prim.Native.Nat.{ℕ, _+_, _*_, _/_, _<_}
 use native.Mathlib.Omega.{arith}
 use lib.ListN.{length}
 use borrow.Author.Tests.{eq-eqb, ne-eqb}
 use Rattle.wire.specs.Bytes.{over}
-use Rattle.wire.specs.All.{more, none as nothing}
+use Rattle.wire.specs.All.{more}
 use Rattle.wire.specs.Cases.{never}
 use Rattle.records.specs.declared.Record.{Record}
 use Rattle.records.specs.Records.{encode as recordBytes, decode as recordsIn}
@@ -18,17 +18,17 @@ use Rattle.room.specs.Spans.{isSome}
 use Rattle.home.specs.Capacities.{cells, classOf}
 use Rattle.home.specs.CapacitiesLaws.{cells-pos}
 use Rattle.home.specs.Zones.{Block, Zone, zone, blocks, hasTag, find, place, takeOut, rewritten, change as changeBy}
-use Rattle.home.specs.Layout.{Valid, change}
+use Rattle.home.specs.Layout.{change}
 use Rattle.home.specs.Cases.{Holds}
 use Rattle.home.specs.FindLaws.{Lacks, has-skip}
 use Rattle.home.specs.PermLaws.{plength}
 use Rattle.home.specs.TakeLaws.{Taken, TakenOut, takeOut-taken, takeOut-valid}
 use Rattle.home.specs.ChangeLaws.{Changed, Listed as Proper}
 use Rattle.home.specs.EditsLaws.{changed as holds-changed, free-any}
-use Rattle.home.specs.HomeLaws.{all-mem, decode-encode as decode-home}
+use Rattle.home.specs.HomeLaws.{all-mem}
 use Rattle.home.specs.Bytes.{encode, decode, blockBytes, cellAt}
 use Rattle.home.specs.Sound.{sound, pagesOf, listOf}
-use Rattle.home.specs.SoundLaws.{sound-encode, encode-decode}
+use Rattle.home.specs.SoundLaws.{sound-encode}
 use Rattle.zones.specs.HomeLaws.{Loose}
 use Rattle.zones.specs.StepLaws.{home-list-set}
 use Rattle.zones.specs.Room.{settled}

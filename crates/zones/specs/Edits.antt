@@ -2,7 +2,7 @@
 use mathlib.Core.Path.{_≡_}
 use mathlib.Core.Bool.{true, false}
 use mathlib.Core.List.{List, [], _++_}
-use Prim.Native.Nat.{ℕ, suc, _*_, _<_}
+use Prim.Native.Nat.{ℕ, suc, _*_}
 use lib.ListN.{take, drop}
 use Rattle.records.specs.declared.Record.{Record}
 use Rattle.records.specs.Records.{Fits, key, look, held, rank}
@@ -62,7 +62,6 @@ pub record Listed (h : List ℕ) (t p n : ℕ) : Type 0 where
 -- a record that is not among them would have rank j there
 pub record Placed (h : List ℕ) (t p n j : ℕ) (r : Record) : Type 0 where
   pub listed : Listed h t p n
-  pub short : n < 989
   pub held : held (look (key r) (listOf h t)) ≡ false
   pub rank : rank (key r) (listOf h t) ≡ j
   pub fits : Fits r

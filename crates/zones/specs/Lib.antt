@@ -26,3 +26,4 @@ pub mod Edits
 pub mod ListedLaws
 pub mod ChangedLaws
 pub mod RecordLaws
+pub mod EditsLaws

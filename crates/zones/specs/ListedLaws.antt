@@ -1,17 +1,24 @@
 -- A tag's list in a sound home: where its block lies, and what it holds.
 use mathlib.Core.Path.{_≡_, sym, ap, _∙_, subst}
 use mathlib.Core.Bool.{true}
-use mathlib.Core.List.{List, _∷_, _++_}
-use Prim.Native.Nat.{ℕ, suc, _+_, _*_, _≤_, _<_}
+use mathlib.Core.List.{List}
+use Prim.Native.Nat.{ℕ, _+_, _-_, _*_, _≤_, _<_}
 use native.Mathlib.Omega.{arith}
-use lib.ListN.{length}
+use lib.ListN.{length, take, drop}
 use Rattle.records.specs.declared.Record.{Record}
-use Rattle.records.specs.Records.{records}
-use Rattle.home.specs.Capacities.{cells, classOf}
+use Rattle.records.specs.Records.{records, rising, decode as recordsIn}
+use Rattle.records.specs.Edits.{decode-part}
+use Rattle.wire.specs.BytesLaws.{part-of}
+use Rattle.home.specs.Capacities.{classOf}
 use Rattle.home.specs.CapacitiesLaws.{cells-most}
-use Rattle.home.specs.Zones.{Block, Zone, zone, blocks, hasTag, find}
-use Rattle.home.specs.Bytes.{cellAt, decode}
-use Rattle.home.specs.Sound.{pagesOf, listOf}
+use Rattle.home.specs.Zones.{Zone, blocks, hasTag, find}
+use Rattle.home.specs.Bytes.{decode, countAt}
+use Rattle.home.specs.Checks.{placeAt}
+use Rattle.home.specs.declared.lookup.Slot.the-variants.{At}
+use Rattle.home.specs.Lookup.{slotOf}
+use Rattle.home.specs.LookupLaws.{entry-held}
+use Rattle.home.specs.LookupTurns.{sound-ordered, slot-at}
+use Rattle.home.specs.Sound.{sound, pagesOf, listOf}
 use Rattle.zones.specs.Known.{Known}
 use Rattle.zones.specs.KnownLaws.{find-there}
 use Rattle.zones.specs.BlockLaws.{Lying, known-lying, slot-has, slot-known}
@@ -57,3 +64,22 @@ module _ (h : List ℕ) (t p n : ℕ) (l : Listed h t p n) where
 
   pub listed-records : records h (listAt p) n ≡ list
   listed-records = ap (records h (listAt p)) listed-many ∙ block-list h p (classOf n) (record { tag = t; list = list }) (listed-lying .sits) (listed-lying .bytes) (listed-lying .inside)
+
+-- ---- found by the dictionary
+
+module _ (h : List ℕ) (t i : ℕ) (s : sound h ≡ true) (e : slotOf h t ≡ At i) where
+  pub entry-under : (i < 256) × (1664 ≤ length h)
+  entry-under = let o = sound-ordered h s in (omega (arith, o .few, slot-at h t i o e .0), o .long)
+
+  pub cell-inside : (p : ℕ) → p ≡ placeAt h i → listAt p ≤ length h
+  cell-inside p q = omega (arith, q, entry-held h i s (slot-at h t i (sound-ordered h s) e .0) .inside)
+
+  pub entry-listed : (p n : ℕ) → p ≡ placeAt h i → n ≡ countAt h p → Listed h t p n
+  entry-listed p n q c = record { sound = s; entry = i; slot = e; cell = q; count = c }
+
+-- the records of a part of home
+pub part-records : (h : List ℕ) (at n : ℕ) → at + 8 * n ≤ length h → recordsIn (take (at + 8 * n - at) (drop at h)) ≡ records h at n
+part-records h at n g = ap recordsIn (part-of h at (8 * n)) ∙ decode-part h at n g
+
+pub listed-rising : (h : List ℕ) (t p n : ℕ) → Listed h t p n → rising (records h (listAt p) n) ≡ true
+listed-rising h t p n l = rw (listed-records h t p n l) (listed-lying h t p n l .sits .rising)

@@ -1,20 +1,20 @@
 -- A block taken out of its zone.
 use mathlib.Core.Path.{_≡_, refl, sym, ap, ap₂, _∙_, subst}
-use mathlib.Core.Bool.{true, false}
+use mathlib.Core.Bool.{false}
 use mathlib.Core.List.{List, [], _∷_, _++_, append-assoc, append-nil}
 use Prim.Native.Nat.{ℕ, zero, suc, _+_, _*_, _-_, _≤_, _<_}
 use native.Mathlib.Omega.{arith}
 use native.Mathlib.Numerals.{add-one}
-use lib.ListN.{length, getD, take, drop, length-append, replicate}
+use lib.ListN.{length, getD, take, length-append, replicate}
 use borrow.Author.Tests.{lt-ltb, le-ltb}
 use Rattle.wire.specs.Bytes.{over, get16}
-use Rattle.wire.specs.All.{All, all-append, all-tail}
+use Rattle.wire.specs.All.{all-tail}
 use Rattle.home.specs.Capacities.{cells}
 use Rattle.home.specs.CapacitiesLaws.{cells-pos}
 use Rattle.room.specs.Steps.{firstIf}
-use Rattle.home.specs.Zones.{Block, Zone, empty, from, zone, blocks, hasTag, lastOf, initOf, turned, endOf, close, takeOut}
+use Rattle.home.specs.Zones.{Block, Zone, empty, zone, blocks, hasTag, lastOf, initOf, turned, endOf, close, takeOut}
 use Rattle.home.specs.Perm.{Perm, pskip, ptrans, Pairs}
-use Rattle.home.specs.PermLaws.{prefl, psym, pleft, pright, pfront, plength, pall, pairs-tail}
+use Rattle.home.specs.PermLaws.{psym, pleft, pright, pfront, plength, pall, pairs-tail}
 use Rattle.home.specs.FindLaws.{pdistinct}
 use Rattle.home.specs.TakeLaws.{turned-perm}
 use Rattle.home.specs.Valid.{Other}
@@ -23,7 +23,7 @@ use Rattle.home.specs.Sound.{pagesOf}
 use Rattle.home.specs.Bytes.{row, spots, encode, decode, cellAt, firstAt, manyAt}
 use Rattle.home.specs.AreaLaws.{fit-le}
 use Rattle.home.specs.Lookup.{Ordered, indexOf}
-use Rattle.zones.specs.Moves.{Movable, zoned, moved, entered, unentered, filled}
+use Rattle.zones.specs.Moves.{Movable, zoned, moved, unentered, filled}
 use Rattle.zones.specs.SpotLaws.{spot}
 use Rattle.zones.specs.HomeLaws.{Loose, movable-without}
 use Rattle.zones.specs.Room.{endAfter, Stored}
@@ -32,8 +32,8 @@ use Rattle.zones.specs.Close.{zoneOf, closedBytes, Open}
 use Rattle.zones.specs.CloseLaws.{decode-loose, pages-loose}
 use Rattle.zones.specs.Known.{Known, lacking, outBytes}
 use Rattle.zones.specs.KnownLaws.{lacking-there, takeOut-there}
-use Rattle.zones.specs.BlockLaws.{Lying, lying, known-spots, known-lying, others-of}
-use Rattle.zones.specs.StepLaws.{firstOf, manyOf, first-zone, many-zone, class-below, fill-spots, home-last-gone, home-place-filled}
+use Rattle.zones.specs.BlockLaws.{Lying, known-spots, known-lying, others-of}
+use Rattle.zones.specs.StepLaws.{firstOf, manyOf, first-zone, many-zone, fill-spots, home-last-gone, home-place-filled}
 use Rattle.zones.specs.LooseLaws.{zone-at, zone-blocks, movable, length-loose, blocks-append, fit-above, fit-joined, fit-lower}
 
 -- the zone's other blocks: the last of those behind it first

@@ -1,22 +1,24 @@
 -- A record put into a tag's list, taken out or changed: home's bytes afterwards.
 use mathlib.Core.Path.{_≡_, refl, sym, ap, ap₂, _∙_, subst}
-use mathlib.Core.Bool.{true, false}
+use mathlib.Core.Bool.{true}
 use mathlib.Core.Logic.{_≢_}
 use mathlib.Core.Option.{Option, none, some, IsSome}
-use mathlib.Core.List.{List, [], _∷_, _++_}
+use mathlib.Core.List.{List, [], _∷_, _++_, append-nil}
 use Prim.Native.Nat.{ℕ, suc, _+_, _-_, _*_, _≤_, _<_}
 use native.Mathlib.Omega.{arith}
-use lib.ListN.{length, take, length-append}
+use lib.ListN.{length, take}
 use lib.Seq.{take-at}
 use Rattle.records.specs.declared.Record.{Record}
-use Rattle.records.specs.Records.{key, look, held, rank, insert, remove, amend, encode as recordBytes}
+use Rattle.records.specs.Records.{key, held, rank, insert, remove, amend, up, inserted, bytesOf, encode as recordBytes}
 use Rattle.records.specs.Order.{remove-at, rank-length}
-use Rattle.records.specs.Edits.{length-encode}
+use Rattle.records.specs.Moves.{length-up}
+use Rattle.records.specs.Cells.{length-bytesOf}
+use Rattle.wire.specs.BytesLaws.{over-whole}
 use Rattle.room.specs.Spans.{isSome}
 use Rattle.home.specs.Capacities.{cells, capacity, classOf}
 use Rattle.home.specs.CapacitiesLaws.{class-holds}
 use Rattle.home.specs.CheckTurns.{cells-is}
-use Rattle.home.specs.Zones.{Block, Zone, blocks, hasTag, find, takeOut}
+use Rattle.home.specs.Zones.{Block, takeOut}
 use Rattle.home.specs.Layout.{change}
 use Rattle.home.specs.ChangeLaws.{Listed as Proper}
 use Rattle.home.specs.EditsLaws.{length-insert, length-amend, remove-listed, amend-listed, insert-listed, shorter}
@@ -28,16 +30,16 @@ use Rattle.zones.specs.SoundLaws.{sound-valid}
 use Rattle.zones.specs.BlockLaws.{Lying}
 use Rattle.zones.specs.Place.{Placeable, placedIn}
 use Rattle.zones.specs.Lists.{listAt, grown, shrunk, insertedHere, removedHere, setHere}
-use Rattle.zones.specs.ListsLaws.{rank-held, length-remove, length-grown, length-shrunk, insert-aside-is, remove-aside-is, insert-here-is, remove-here-is, set-here-is}
+use Rattle.zones.specs.ListsLaws.{rank-held, length-remove, insert-aside-is, remove-aside-is, insert-here-is, remove-here-is, set-here-is}
 use Rattle.zones.specs.Edits.{Listed, Placed, Ranked, changed, without}
-use Rattle.zones.specs.ListedLaws.{listed-has, listed-lying, listed-many, listed-some, listed-most, listed-inside}
+use Rattle.zones.specs.ListedLaws.{listed-has, listed-lying, listed-many, listed-some, listed-most}
 use Rattle.zones.specs.ChangedLaws.{changed-here, changed-none, moved-placeable, moved-changed}
 
 -- what was written to the front of a longer run
 pub front-is : (e : ℕ) (ys post v : List ℕ) → ys ≡ v → length v ≡ e → take (e - 0) (ys ++ post) ≡ v
 front-is e ys post v q l = take-at ys post (e - 0) (ap length q ∙ omega arith) ∙ q
 
-some-is : {A : Type 0} (o : Option A) → IsSome o → isSome o ≡ true
+pub some-is : {A : Type 0} (o : Option A) → IsSome o → isSome o ≡ true
 unfolding isSome
 some-is none i = absurd i
 some-is (some x) i = refl
@@ -93,7 +95,7 @@ module _ (h : List ℕ) (t p n j : ℕ) (k : Ranked h t p n j) where
   pub shrunk-is : shrunk h p n j ≡ recordBytes (without j rs)
   shrunk-is = ap₂ (shrunk h p) many (sym (k .rank)) ∙ remove-aside-is h p (classOf n) b (lies .sits) (lies .bytes) (lies .inside) (k .key) (k .held) ∙ ap recordBytes without-is
 
-  out-room : isSome (change (8 * pagesOf h) t (without j rs) (decode h)) ≡ true
+  pub out-room : isSome (change (8 * pagesOf h) t (without j rs) (decode h)) ≡ true
   unfolding listOf
   out-room = some-is (change (8 * pagesOf h) t (without j rs) (decode h))
       (shorter (8 * pagesOf h) t (decode h) (sound-valid h (k .listed .sound)) (lies .sits .tag) (without j rs) (listed-has h t p n (k .listed)) (omega (arith, left-many, many)))
@@ -125,32 +127,36 @@ module _ (h : List ℕ) (t p n j : ℕ) (r : Record) (k : Placed h t p n j r) wh
   pub placed-under : j ≤ n
   placed-under = omega (arith, rank-length (key r) old, k .rank, count)
 
-  new-proper : Proper new
-  new-proper = insert-listed r old (k .fits) (k .held) (omega (arith, k .short, count)) (proper h t p n (k .listed))
-
   pub new-many : length new ≡ n + 1
   new-many = length-insert r old ∙ omega (arith, count)
 
-  -- the class stays: there is a free cell
-  pub in-free : classOf (n + 1) ≡ classOf n → suc n ≤ capacity (classOf n)
-  in-free e = omega (arith, class-holds (n + 1) (omega (arith, k .short)), ap cells e, cells-is (classOf n))
+  module _ (short : n < 989) where
+    new-proper : Proper new
+    new-proper = insert-listed r old (k .fits) (k .held) (omega (arith, count)) (proper h t p n (k .listed))
 
-  pub in-here : classOf (n + 1) ≡ classOf n → insertedHere h p n j r ≡ changed h t new
-  in-here e =
-      ap₂ (λ (x y : ℕ). insertedHere h p x y r) count (sym (k .rank))
-      ∙ insert-here-is h p (classOf n) (record { tag = t; list = old }) (here .sits) (here .bytes) (here .inside) r (omega (arith, in-free e, count))
-      ∙ changed-here h t p n (k .listed) new new-proper (omega (arith, new-many)) (ap classOf new-many ∙ e)
+    -- the class stays: there is a free cell
+    pub in-free : classOf (n + 1) ≡ classOf n → suc n ≤ capacity (classOf n)
+    in-free e = omega (arith, class-holds (n + 1) (omega (arith, short)), ap cells e, cells-is (classOf n))
 
-  -- another class
-  grown-is : grown h p n j r ≡ recordBytes new
-  grown-is = ap₂ (λ (x y : ℕ). grown h p x y r) count (sym (k .rank)) ∙ insert-aside-is h p (classOf n) (record { tag = t; list = old }) (here .sits) (here .bytes) (here .inside) r
+    pub in-inside : classOf (n + 1) ≡ classOf n → listAt p + 8 * (n + 1) ≤ length h
+    in-inside e = omega (arith, in-free e, cells-is (classOf n), here .inside)
 
-  module _ (h' bs : List ℕ) (q : h' ≡ encode (pagesOf h) (takeOut cells t 0 0 (decode h))) (e : bs ≡ grown h p n j r) where
-    pub in-placeable : Placeable h' t bs
-    in-placeable = moved-placeable h t p n (k .listed) h' q new new-proper bs (e ∙ grown-is) (omega (arith, new-many))
+    pub in-here : classOf (n + 1) ≡ classOf n → insertedHere h p n j r ≡ changed h t new
+    in-here e =
+        ap₂ (λ (x y : ℕ). insertedHere h p x y r) count (sym (k .rank))
+        ∙ insert-here-is h p (classOf n) (record { tag = t; list = old }) (here .sits) (here .bytes) (here .inside) r (omega (arith, in-free e, count))
+        ∙ changed-here h t p n (k .listed) new new-proper (omega (arith, new-many)) (ap classOf new-many ∙ e)
 
-    pub in-moved : (x : List ℕ) → classOf (n + 1) ≢ classOf n → isSome (change (8 * pagesOf h) t new (decode h)) ≡ true → x ≡ settled (pagesOf h') h' [] (placedIn h' t bs) → x ≡ changed h t new
-    in-moved x d i y = moved-changed h t p n (k .listed) h' q new new-proper bs (e ∙ grown-is) x (omega (arith, new-many)) (λ u. d (ap classOf (sym new-many) ∙ u)) i y
+    -- another class
+    grown-is : grown h p n j r ≡ recordBytes new
+    grown-is = ap₂ (λ (x y : ℕ). grown h p x y r) count (sym (k .rank)) ∙ insert-aside-is h p (classOf n) (record { tag = t; list = old }) (here .sits) (here .bytes) (here .inside) r
+
+    module _ (h' bs : List ℕ) (q : h' ≡ encode (pagesOf h) (takeOut cells t 0 0 (decode h))) (e : bs ≡ grown h p n j r) where
+      pub in-placeable : Placeable h' t bs
+      in-placeable = moved-placeable h t p n (k .listed) h' q new new-proper bs (e ∙ grown-is) (omega (arith, new-many))
+
+      pub in-moved : (x : List ℕ) → classOf (n + 1) ≢ classOf n → isSome (change (8 * pagesOf h) t new (decode h)) ≡ true → x ≡ settled (pagesOf h') h' [] (placedIn h' t bs) → x ≡ changed h t new
+      in-moved x d i y = moved-changed h t p n (k .listed) h' q new new-proper bs (e ∙ grown-is) x (omega (arith, new-many)) (λ u. d (ap classOf (sym new-many) ∙ u)) i y
 
 -- ---- its minutes set
 
@@ -163,3 +169,9 @@ set-changed h t p n j m k g =
     ap₂ (λ (x y : ℕ). setHere h p x y m) c (sym (k .rank))
     ∙ set-here-is h p (classOf n) (record { tag = t; list = rs }) (s .sits) (s .bytes) (s .inside) (k .key) m (k .held)
     ∙ changed-here h t p n (k .listed) (amend (k .key) m rs) (amend-listed (k .key) m rs g (proper h t p n (k .listed))) (omega (arith, l, listed-some h t p n (k .listed))) (ap classOf l)
+
+-- ---- a list of one
+
+pub inserted-alone : (l : List ℕ) (r : Record) → length l ≡ 8 → inserted l 0 r ≡ recordBytes (r ∷ [])
+unfolding inserted recordBytes
+inserted-alone l r e = over-whole (up l (8 * 0)) (bytesOf r) (length-bytesOf r ∙ sym (length-up l (8 * 0) ∙ e)) ∙ sym (append-nil (bytesOf r))

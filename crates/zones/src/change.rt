@@ -29,7 +29,7 @@ pub fn insert_moving(
     r: Record,
     aside: &mut [u8],
 )
-    requires { ⌜ Placed (now home) tag p n j r × (classOf (n + 1) ≢ classOf n) × (8 * (n + 1) ≤ length (now aside)) ⌝ }
+    requires { ⌜ Placed (now home) tag p n j r × (n < 989) × (classOf (n + 1) ≢ classOf n) × (8 * (n + 1) ≤ length (now aside)) ⌝ }
     requires { ⌜ isSome (change (8 * pagesOf (now home)) tag (inserted r (listOf (now home) tag)) (decode (now home))) ≡ true ⌝ }
     ensures { λ _. ⌜ now (home .exit) ≡ changed (now (home .entry)) tag (inserted r (listOf (now (home .entry)) tag)) ⌝ }
 {
