@@ -6,6 +6,8 @@ use Rattle.log.specs.declared.Head.{Head}
 use Rattle.log.specs.declared.Head.the-variants.{Bad, Clear, Committed}
 use Rattle.log.specs.Image.{home, headOf}
 use Rattle.home.specs.Sound.{sized, sound}
+use Rattle.zones.specs.declared.Answer.{Answer}
+use Rattle.zones.specs.declared.Answer.the-variants.{Refused}
 use Rattle.index.specs.declared.Gate.{Gate}
 use Rattle.index.specs.declared.Gate.the-variants.{Open, Shut}
 
@@ -22,3 +24,12 @@ imageGate l = byHead (headOf l) (pick (sound (home l)) Open (Shut 5))
 -- a workspace lent alone: "6: .. is no 64(26 + R)", "7: workspace not sound"
 unfoldable pub spaceGate : List ℕ → Gate
 spaceGate w = pick (sized w) (pick (sound w) Open (Shut 7)) (Shut 6)
+
+-- what a call answers and leaves behind a gate: "Every refusal leaves all lent bytes unchanged"
+unfoldable pub gatedAnswer : Gate → Answer → Answer
+gatedAnswer Open a = a
+gatedAnswer (Shut r) a = Refused r
+
+unfoldable pub gatedBytes : Gate → List ℕ → List ℕ → List ℕ
+gatedBytes Open bs old = bs
+gatedBytes (Shut r) bs old = old

@@ -11,8 +11,11 @@ use Rattle.log.specs.declared.Head.the-variants.{Bad, Clear, Committed}
 use Rattle.log.specs.Image.{home, headOk, headOf}
 use Rattle.log.specs.Answers.{clear-ok}
 use Rattle.home.specs.Sound.{sized, sound}
+use Rattle.zones.specs.declared.Answer.{Answer}
+use Rattle.zones.specs.declared.Answer.the-variants.{Refused}
+use Rattle.index.specs.declared.Gate.{Gate}
 use Rattle.index.specs.declared.Gate.the-variants.{Open, Shut}
-use Rattle.index.specs.Gates.{byHead, imageGate, spaceGate}
+use Rattle.index.specs.Gates.{byHead, imageGate, spaceGate, gatedAnswer, gatedBytes}
 
 module _ (l : List ℕ) where
   pub gate-bad : (r : ℕ) → headOf l ≡ Bad r → Shut r ≡ imageGate l
@@ -72,3 +75,12 @@ module _ (w : List ℕ) where
   space-open e = by-test (sized w)
       (λ a. by-test (sound w) (λ t. t) (λ t. let g = rw (a, t) at e in let z : _≡_ {A = ℕ} 0 1 = cc in absurd (omega arith)))
       (λ a. let g = rw a at e in let z : _≡_ {A = ℕ} 0 1 = cc in absurd (omega arith))
+
+module _ (g : Gate) where
+  pub gated-open : (a b : Answer) (bs cs old : List ℕ) → g ≡ Open → a ≡ b → bs ≡ cs → (a ≡ gatedAnswer g b) × (bs ≡ gatedBytes g cs old)
+  unfolding gatedAnswer gatedBytes
+  gated-open a b bs cs old e f h = rw e (f, h)
+
+  pub gated-shut : (r : ℕ) (b : Answer) (cs old : List ℕ) → g ≡ Shut r → (Refused r ≡ gatedAnswer g b) × (old ≡ gatedBytes g cs old)
+  unfolding gatedAnswer gatedBytes
+  gated-shut r b cs old e = rw e (refl, refl)

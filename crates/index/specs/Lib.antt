@@ -1,4 +1,5 @@
 pub mod Gates
+pub mod Edits
 pub mod Reads
 pub mod GatesLaws
 pub mod ReadsLaws

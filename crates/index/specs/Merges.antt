@@ -9,11 +9,9 @@ use Rattle.records.specs.declared.Merge.{Merge}
 use Rattle.records.specs.Records.{merge, encode}
 use Rattle.log.specs.Image.{home}
 use Rattle.home.specs.Sound.{listOf}
-use Rattle.index.specs.declared.Gate.{Gate}
-use Rattle.index.specs.declared.Gate.the-variants.{Open, Shut}
-use Rattle.index.specs.declared.Answer.{Answer}
-use Rattle.index.specs.declared.Answer.the-variants.{Count, Refused}
-use Rattle.index.specs.Gates.{imageGate, spaceGate}
+use Rattle.zones.specs.declared.Answer.{Answer}
+use Rattle.zones.specs.declared.Answer.the-variants.{Count, Refused}
+use Rattle.index.specs.Gates.{imageGate, spaceGate, gatedAnswer, gatedBytes}
 
 -- "15: output shorter than the records to write"; "Answer: the number of records. Bytes beyond them stay."
 unfoldable pub fitted : List Record → List ℕ → Answer
@@ -21,15 +19,6 @@ fitted rs out = pick (leb (8 * length rs) (length out)) (Count (length rs)) (Ref
 
 unfoldable pub filled : List Record → List ℕ → List ℕ
 filled rs out = pick (leb (8 * length rs) (length out)) (over out 0 (encode rs)) out
-
--- behind a gate
-unfoldable pub gatedAnswer : Gate → Answer → Answer
-gatedAnswer Open a = a
-gatedAnswer (Shut r) a = Refused r
-
-unfoldable pub gatedBytes : Gate → List ℕ → List ℕ → List ℕ
-gatedBytes Open bs old = bs
-gatedBytes (Shut r) bs old = old
 
 -- the records of home bytes h that are written
 unfoldable pub mergedOf : Merge → List ℕ → ℕ → ℕ → List Record

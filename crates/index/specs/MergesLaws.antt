@@ -2,7 +2,6 @@
 use mathlib.Core.Path.{_≡_, refl, ap, ap₂, _∙_}
 use mathlib.Core.Bool.{true}
 use Prim.Native.Nat.{ℕ, _*_, _≤_, _<_}
-use native.Mathlib.Omega.{arith}
 use mathlib.Core.List.{List}
 use lib.ListN.{length}
 use borrow.Author.Tests.{le-leb, lt-leb}
@@ -16,11 +15,8 @@ use Rattle.home.specs.EditsLaws.{valid-listed}
 use Rattle.home.specs.HomeLaws.{all-mem}
 use Rattle.home.specs.Sound.{Sound, sound, listOf}
 use Rattle.home.specs.SoundLaws.{t-sound, sound-zones}
-use Rattle.index.specs.declared.Gate.{Gate}
-use Rattle.index.specs.declared.Gate.the-variants.{Open, Shut}
-use Rattle.index.specs.declared.Answer.{Answer}
-use Rattle.index.specs.declared.Answer.the-variants.{Count, Refused}
-use Rattle.index.specs.Merges.{fitted, filled, gatedAnswer, gatedBytes, mergedOf}
+use Rattle.zones.specs.declared.Answer.the-variants.{Count, Refused}
+use Rattle.index.specs.Merges.{fitted, filled, mergedOf}
 
 -- lists of a sound home are rising and their values fit
 pub sound-listed : (h : List ℕ) (t : ℕ) → sound h ≡ true → Listed (listOf h t)
@@ -46,12 +42,3 @@ module _ (rs : List Record) (out : List ℕ) where
   pub fitted-all : (n : ℕ) (out' : List ℕ) → 8 * length rs ≤ length out → n ≡ length rs → out' ≡ over out 0 (encode rs) → (Count n ≡ fitted rs out) × (out' ≡ filled rs out)
   unfolding fitted filled
   fitted-all n out' g e f = rw (le-leb (8 * length rs) (length out) g) (ap Count e, f)
-
-module _ (g : Gate) where
-  pub gated-open : (a b : Answer) (bs cs old : List ℕ) → g ≡ Open → a ≡ b → bs ≡ cs → (a ≡ gatedAnswer g b) × (bs ≡ gatedBytes g cs old)
-  unfolding gatedAnswer gatedBytes
-  gated-open a b bs cs old e f h = rw e (f, h)
-
-  pub gated-shut : (r : ℕ) (b : Answer) (cs old : List ℕ) → g ≡ Shut r → (Refused r ≡ gatedAnswer g b) × (old ≡ gatedBytes g cs old)
-  unfolding gatedAnswer gatedBytes
-  gated-shut r b cs old e = rw e (refl, refl)

@@ -2,22 +2,19 @@
 use log::Head;
 use log::Outcome;
 use records::Merge;
+use records::Record;
+use zones::Answer;
 ghost use mathlib.Core.Path.{_≡_};
 ghost use lib.ListN.{length};
 ghost use lib.Dec.{eqb};
 ghost use Rattle.log.specs.Image.{home as homeOf};
 ghost use Rattle.log.specs.Calls.{answer, after, formatPlan, recoverPlan, commitPlan};
 ghost use Rattle.home.specs.Sound.{sound as isSound};
+ghost use Rattle.records.specs.Records.{key, merge as merged, decode};
 ghost use Rattle.index.specs.Gates.{imageGate, spaceGate};
-ghost use Rattle.records.specs.Records.{merge as merged, decode};
 ghost use Rattle.index.specs.Merges.{fitted, filled, mergeImage, outImage, mergeSpace, outSpace};
+ghost use Rattle.index.specs.Edits.{putAnswer, putSpace, deleteAnswer, deleteSpace, setAnswer, setSpace, dropAnswer, dropSpace};
 ghost use Rattle.index.specs.Reads.{countImage, countSpace, showImage, showSpace, beginAnswer, beginSpace};
-
-// A number of records, or refused with a number.
-pub enum Answer {
-    Count(usize),
-    Refused(u8),
-}
 
 // What begin answers.
 pub enum Begun {
@@ -117,6 +114,50 @@ pub fn begin(image: &[u8], space: &mut [u8]) -> Begun
             }
         }
         Gate::Shut(r) => Begun::Unbegun(r),
+    }
+}
+
+// Puts a record to a tag's list in a workspace. Refused after 6 and 7: 8, listed already; 10, 989 records; 11, 256 tags; 12, no room.
+pub fn put(space: &mut [u8], tag: u32, r: Record) -> Answer
+    ensures { λ a. ⌜ a ≡ putAnswer (now (space .entry)) tag r ⌝ }
+    ensures { λ _. ⌜ now (space .exit) ≡ putSpace (now (space .entry)) tag r ⌝ }
+{
+    match space_gate(space) {
+        Gate::Open => zones::put(space, tag, r),
+        Gate::Shut(n) => Answer::Refused(n),
+    }
+}
+
+// Deletes the record with r's level, second and phone from a tag's list. Refused after 6 and 7: 9, no such record.
+pub fn delete(space: &mut [u8], tag: u32, r: Record) -> Answer
+    ensures { λ a. ⌜ a ≡ deleteAnswer (now (space .entry)) tag (key r) ⌝ }
+    ensures { λ _. ⌜ now (space .exit) ≡ deleteSpace (now (space .entry)) tag (key r) ⌝ }
+{
+    match space_gate(space) {
+        Gate::Open => zones::delete(space, tag, records::key_of(r)),
+        Gate::Shut(n) => Answer::Refused(n),
+    }
+}
+
+// Gives the record with r's level, second and phone r's minutes. Refused after 6 and 7: 9, no such record.
+pub fn set_minutes(space: &mut [u8], tag: u32, r: Record) -> Answer
+    ensures { λ a. ⌜ a ≡ setAnswer (now (space .entry)) tag (key r) (r .minutes) ⌝ }
+    ensures { λ _. ⌜ now (space .exit) ≡ setSpace (now (space .entry)) tag (key r) (r .minutes) ⌝ }
+{
+    match space_gate(space) {
+        Gate::Open => zones::set_minutes(space, tag, records::key_of(r), r.minutes),
+        Gate::Shut(n) => Answer::Refused(n),
+    }
+}
+
+// Drops a tag with its list. Refused after 6 and 7: 9, no such tag.
+pub fn drop_tag(space: &mut [u8], tag: u32) -> Answer
+    ensures { λ a. ⌜ a ≡ dropAnswer (now (space .entry)) tag ⌝ }
+    ensures { λ _. ⌜ now (space .exit) ≡ dropSpace (now (space .entry)) tag ⌝ }
+{
+    match space_gate(space) {
+        Gate::Open => zones::drop_tag(space, tag),
+        Gate::Shut(n) => Answer::Refused(n),
     }
 }
 

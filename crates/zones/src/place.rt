@@ -1,8 +1,11 @@
 // A block placed.
 use crate::lift::make_room;
-use crate::moves::{insert_entry, set_zone};
-use home::classes::{cells, class_of};
-use home::lookup::{zone_count, zone_first};
+use crate::moves::insert_entry;
+use crate::moves::set_zone;
+use home::classes::cells;
+use home::classes::class_of;
+use home::lookup::zone_count;
+use home::lookup::zone_first;
 ghost use mathlib.Core.Path.{_≡_};
 ghost use mathlib.Core.List.{[]};
 ghost use Prim.Native.Nat.{_+_, _*_, _≤_, _<_};

@@ -1,6 +1,6 @@
 use mathlib.Core.Path.{sym, ap, _∙_}
-use Rattle.index.specs.GatesLaws.{image-open, lent-home}
-use Rattle.index.specs.MergesLaws.{merged-is, gated-open, gated-shut}
+use Rattle.index.specs.GatesLaws.{image-open, lent-home, gated-open, gated-shut}
+use Rattle.index.specs.MergesLaws.{merged-is}
 use mathlib.Core.List.{List}
 use Prim.Native.Nat.{ℕ}
 use Rattle.records.specs.declared.Record.{Record}

@@ -1,6 +1,6 @@
 use mathlib.Core.Path.{sym, ap, _∙_}
-use Rattle.index.specs.GatesLaws.{space-open}
-use Rattle.index.specs.MergesLaws.{merged-is, gated-open, gated-shut}
+use Rattle.index.specs.GatesLaws.{space-open, gated-open, gated-shut}
+use Rattle.index.specs.MergesLaws.{merged-is}
 use mathlib.Core.List.{List}
 use Rattle.records.specs.declared.Record.{Record}
 use Rattle.index.specs.Gates.{spaceGate}

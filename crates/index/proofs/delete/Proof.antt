@@ -1,0 +1,50 @@
+use mathlib.Core.Path.{sym, _∙_}
+use Rattle.index.specs.Gates.{spaceGate}
+use Rattle.index.specs.GatesLaws.{space-open, gated-open, gated-shut}
+use Rattle.index.specs.Edits.{deleteAnswer, deleteSpace}
+use borrow.Author.Needs.{needs}
+use Rattle.index.proofs.delete.Statement.{statement}
+use Rattle.index.proofs.delete.Tie as tie
+
+space-gate-requires : tie.Need-space-gate-requires
+space-gate-requires c κs = search needs
+
+enum-told : tie.Need-enum-told
+enum-told c = search needs
+
+key-of-requires : tie.Need-key-of-requires
+key-of-requires c κs = search needs
+
+delete-requires : tie.Need-delete-requires
+delete-requires c κs = space-open _ (sym (c .before .before .before .before .space-gate .ensures) ∙ c .before .before .enum-told .given .1)
+
+enum-known-n : tie.Need-enum-known-n
+enum-known-n c = search needs
+
+same-length : tie.Need-same-length
+same-length c = search needs
+
+returns : tie.Need-returns
+unfolding deleteAnswer deleteSpace
+returns c = rw (← c .before .before .before .key-of .ensures) (gated-open (spaceGate (c .before .before .before .before .before .before .before .before .before .before .args .space .now)) _ _ _ _ (c .before .before .before .before .before .before .before .before .before .before .args .space .now) (sym (c .before .before .before .before .before .before .before .space-gate .ensures) ∙ c .before .before .before .before .before .enum-told .given .1) (c .before .before .delete .ensures .0) (c .before .before .delete .ensures .1))
+
+same-length-2 : tie.Need-same-length-2
+same-length-2 c = search needs
+
+returns-2 : tie.Need-returns-2
+unfolding deleteAnswer deleteSpace
+returns-2 c = gated-shut (spaceGate (c .before .before .before .before .before .before .args .space .now)) _ _ _ (c .before .before .before .before .before .before .args .space .now) (sym (c .before .before .before .space-gate .ensures) ∙ c .before .n .given .1)
+
+pub delete-spec : {M : Type 1} → statement M
+delete-spec =
+    tie.close
+    (tie.spec
+    space-gate-requires
+    enum-told
+    key-of-requires
+    delete-requires
+    enum-known-n
+    same-length
+    returns
+    same-length-2
+    returns-2)

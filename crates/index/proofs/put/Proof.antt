@@ -1,0 +1,46 @@
+use mathlib.Core.Path.{sym, _∙_}
+use Rattle.index.specs.Gates.{spaceGate}
+use Rattle.index.specs.GatesLaws.{space-open, gated-open, gated-shut}
+use Rattle.index.specs.Edits.{putAnswer, putSpace}
+use borrow.Author.Needs.{needs}
+use Rattle.index.proofs.put.Statement.{statement}
+use Rattle.index.proofs.put.Tie as tie
+
+space-gate-requires : tie.Need-space-gate-requires
+space-gate-requires c κs = search needs
+
+enum-told : tie.Need-enum-told
+enum-told c = search needs
+
+put-requires : tie.Need-put-requires
+put-requires c κs = space-open _ (sym (c .before .before .before .space-gate .ensures) ∙ c .before .enum-told .given .1)
+
+enum-known-n : tie.Need-enum-known-n
+enum-known-n c = search needs
+
+same-length : tie.Need-same-length
+same-length c = search needs
+
+returns : tie.Need-returns
+unfolding putAnswer putSpace
+returns c = gated-open (spaceGate (c .before .before .before .before .before .before .before .before .before .args .space .now)) _ _ _ _ (c .before .before .before .before .before .before .before .before .before .args .space .now) (sym (c .before .before .before .before .before .before .space-gate .ensures) ∙ c .before .before .before .before .enum-told .given .1) (c .before .before .put .ensures .0) (c .before .before .put .ensures .1)
+
+same-length-2 : tie.Need-same-length-2
+same-length-2 c = search needs
+
+returns-2 : tie.Need-returns-2
+unfolding putAnswer putSpace
+returns-2 c = gated-shut (spaceGate (c .before .before .before .before .before .before .args .space .now)) _ _ _ (c .before .before .before .before .before .before .args .space .now) (sym (c .before .before .before .space-gate .ensures) ∙ c .before .n .given .1)
+
+pub put-spec : {M : Type 1} → statement M
+put-spec =
+    tie.close
+    (tie.spec
+    space-gate-requires
+    enum-told
+    put-requires
+    enum-known-n
+    same-length
+    returns
+    same-length-2
+    returns-2)
