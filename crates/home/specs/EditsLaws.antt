@@ -30,7 +30,7 @@ unfolding insert
 length-insert r [] = refl
 length-insert r (x ∷ xs) = by-pick (λ (l : List Record). length l ≡ suc (suc (length xs))) (ltb (key x) (key r)) (λ t. ap suc (length-insert r xs)) (λ t. refl)
 
-length-remove : (k : ℕ) (rs : List Record) → length (remove k rs) ≤ length rs
+pub length-remove : (k : ℕ) (rs : List Record) → length (remove k rs) ≤ length rs
 unfolding remove
 length-remove k [] = omega arith
 length-remove k (x ∷ xs) = by-pick (λ (l : List Record). length l ≤ suc (length xs)) (eqb (key x) k) (λ t. omega arith) (λ t. omega (arith, length-remove k xs))
@@ -96,7 +96,7 @@ pub valid-listed : (n t : ℕ) (zs : List Zone) → Valid n zs → Listed (find 
 valid-listed n t zs v = find-listed t (blocks zs) (all-listed n 0 0 zs (v .laid))
 
 -- a tag with a record is there
-has-held : (t k : ℕ) (bs : List Block) → held (look k (find t bs)) ≡ true → hasTag t bs ≡ true
+pub has-held : (t k : ℕ) (bs : List Block) → held (look k (find t bs)) ≡ true → hasTag t bs ≡ true
 unfolding find hasTag look
 has-held t k [] h = never h
 has-held t k (x ∷ xs) h =

@@ -7,3 +7,6 @@ pub mod Merges
 pub mod MergesLaws
 pub mod CommitLaws
 pub mod Claim
+pub mod Rules
+pub mod RulesLaws
+pub mod Demands

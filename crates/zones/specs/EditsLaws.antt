@@ -79,7 +79,7 @@ unfolding settled isSome
 settled-none R h none i = refl
 settled-none R h (some zs) i = never (sym i)
 
-drop-some : (area t : ℕ) (zs : List Zone) → isSome (change area t [] zs) ≡ true
+pub drop-some : (area t : ℕ) (zs : List Zone) → isSome (change area t [] zs) ≡ true
 unfolding changeBy isSome
 drop-some area t zs = refl
 
