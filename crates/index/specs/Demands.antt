@@ -1,7 +1,6 @@
 -- Demand 2, over the calls' definitions: what an edit changes and what it leaves, and what a read then finds.
 use mathlib.Core.Path.{_≡_, refl, sym, ap, _∙_, subst}
 use mathlib.Core.Bool.{true}
-use mathlib.Core.Logic.{_≢_}
 use Prim.Native.Nat.{ℕ, zero, suc, _+_, _*_, _≤_, _<_}
 use native.Mathlib.Omega.{arith}
 use mathlib.Core.List.{List, [], _∷_}
@@ -22,18 +21,15 @@ use Rattle.log.specs.Book.{commit, seen, planOf, allowance, final}
 use Rattle.log.specs.Claim.{holds}
 use Rattle.log.specs.Kept.{completed}
 use Rattle.home.specs.Zones.{Zone, empty, blocks, find}
-use Rattle.home.specs.Edits.{Answer as Result, count, refused, Edited}
-use Rattle.home.specs.EditsLaws.{Outcome, Ends, put-ends, delete-ends, set-ends, drop-ends}
-use Rattle.home.specs.Bytes.{encode, decode}
+use Rattle.home.specs.Edits.{Edited}
+use Rattle.home.specs.Bytes.{encode}
 use Rattle.home.specs.Perm.{single}
 use Rattle.home.specs.Layout.{Valid}
 use Rattle.log.specs.FormatLaws.{format-done, empty-head, empty-mark, empty-home}
-use Rattle.home.specs.HomeLaws.{length-encode-home}
-use Rattle.home.specs.Sound.{sized, sound, pagesOf, listOf}
-use Rattle.home.specs.SoundLaws.{sound-encode, encode-decode, listOf-encode}
-use Rattle.zones.specs.declared.Answer.{Answer}
-use Rattle.zones.specs.declared.Answer.the-variants.{Count, Refused}
-use Rattle.zones.specs.SoundLaws.{sound-some, sound-small, sound-valid}
+use Rattle.home.specs.Sound.{sized, sound, listOf}
+use Rattle.home.specs.SoundLaws.{sound-encode, listOf-encode}
+use Rattle.zones.specs.declared.Answer.the-variants.{Count}
+use Rattle.zones.specs.Effects.{Effect, put-does, delete-does, set-does, drop-does}
 use Rattle.zones.specs.Edits.{told, putIn, deleteIn, setIn, dropIn, leaves}
 use Rattle.index.specs.declared.Gate.{Gate}
 use Rattle.index.specs.declared.Gate.the-variants.{Open, Shut}
@@ -46,62 +42,33 @@ use Rattle.index.specs.Edits.{putAnswer, putSpace, deleteAnswer, deleteS
 
 -- ---- edits
 
--- an edit that is not refused: tag t's list is rs, and the answer its record count; "every other tag reads as before"
-pub record Done (w w' : List ℕ) (t : ℕ) (rs : List Record) (n : ℕ) : Type 0 where
-  pub fine : sound w' ≡ true
-  pub long : length w' ≡ length w
-  pub list : listOf w' t ≡ rs
-  pub counts : n ≡ length rs
-  pub others : (u : ℕ) → u ≢ t → listOf w' u ≡ listOf w u
+-- behind the gate of a workspace
+gated-effect : (w : List ℕ) (t : ℕ) (rs : List Record) (e : Edited) → (sound w ≡ true → Effect w (leaves w e) t rs (told (e .answer)))
+    → Effect w (gatedBytes (spaceGate w) (leaves w e) w) t rs (gatedAnswer (spaceGate w) (told (e .answer)))
+unfolding gatedBytes gatedAnswer
+gated-effect w t rs e f = go (spaceGate w) refl
+  where
+    go : (g : Gate) → spaceGate w ≡ g → Effect w (gatedBytes g (leaves w e) w) t rs (gatedAnswer g (told (e .answer)))
+    go Open q = f (space-open w q)
+    go (Shut n) q = refl
 
--- "A refused call changes no lent byte"
-abbrev pub Effect : List ℕ → List ℕ → ℕ → List Record → Answer → Type 0
-Effect w w' t rs (Count n) = Done w w' t rs n
-Effect w w' t rs (Refused n) = w' ≡ w
-
-module _ (w : List ℕ) (t : ℕ) (rs : List Record) where
-  effect-sound : (No : ℕ → Type 0) (e : Edited) → sound w ≡ true → Ends (8 * pagesOf w) t rs (decode w) No e → Effect w (leaves w e) t rs (told (e .answer))
-  unfolding told listOf
-  effect-sound No e s d = go (e .answer) (e .layout) d
-    where
-      R : ℕ
-      R = pagesOf w
-
-      go : (a : Result) (zs : List Zone) → Outcome (8 * pagesOf w) t rs (decode w) No a zs → Effect w (encode (pagesOf w) zs) t rs (told a)
-      go (refused n) zs o = ap (encode (pagesOf w)) (o .1) ∙ encode-decode w s
-      go (count n) zs o = record {
-        fine = sound-encode (pagesOf w) zs (sound-some w s) (sound-small w s) (o .1 .valid);
-        long = length-encode-home (pagesOf w) zs (o .1 .valid) ∙ sym (ap length (sym (encode-decode w s)) ∙ length-encode-home (pagesOf w) (decode w) (sound-valid w s));
-        list = listOf-encode (pagesOf w) zs t (sound-small w s) (o .1 .valid) ∙ o .1 .found;
-        counts = o .0;
-        others = λ u d. listOf-encode (pagesOf w) zs u (sound-small w s) (o .1 .valid) ∙ o .1 .others u d;
-      }
-
-  effect : (e : Edited) → (sound w ≡ true → Effect w (leaves w e) t rs (told (e .answer))) → Effect w (gatedBytes (spaceGate w) (leaves w e) w) t rs (gatedAnswer (spaceGate w) (told (e .answer)))
-  unfolding gatedBytes gatedAnswer
-  effect e f = go (spaceGate w) refl
-    where
-      go : (g : Gate) → spaceGate w ≡ g → Effect w (gatedBytes g (leaves w e) w) t rs (gatedAnswer g (told (e .answer)))
-      go Open q = f (space-open w q)
-      go (Shut n) q = refl
-
--- "Put a record": "those three never twice"
+-- an edit changes the named tag's list as said, and every other tag reads as before; a refused one changes no byte
 module _ (w : List ℕ) (t : ℕ) (small : t < 4294967296) where
   pub put-effect : (r : Record) → Fits r → Effect w (putSpace w t r) t (insert r (listOf w t)) (putAnswer w t r)
-  unfolding putSpace putAnswer listOf
-  put-effect r f = effect w t (insert r (listOf w t)) (putIn w t r) (λ s. effect-sound w t (insert r (listOf w t)) _ (putIn w t r) s (put-ends (8 * pagesOf w) t (decode w) (sound-valid w s) small r f))
+  unfolding putSpace putAnswer
+  put-effect r f = gated-effect w t (insert r (listOf w t)) (putIn w t r) (λ s. put-does w t s small r f)
 
   pub delete-effect : (k : ℕ) → Effect w (deleteSpace w t k) t (remove k (listOf w t)) (deleteAnswer w t k)
-  unfolding deleteSpace deleteAnswer listOf
-  delete-effect k = effect w t (remove k (listOf w t)) (deleteIn w t k) (λ s. effect-sound w t (remove k (listOf w t)) _ (deleteIn w t k) s (delete-ends (8 * pagesOf w) t (decode w) (sound-valid w s) small k))
+  unfolding deleteSpace deleteAnswer
+  delete-effect k = gated-effect w t (remove k (listOf w t)) (deleteIn w t k) (λ s. delete-does w t s small k)
 
   pub set-effect : (k m : ℕ) → m < 256 → Effect w (setSpace w t k m) t (amend k m (listOf w t)) (setAnswer w t k m)
-  unfolding setSpace setAnswer listOf
-  set-effect k m g = effect w t (amend k m (listOf w t)) (setIn w t k m) (λ s. effect-sound w t (amend k m (listOf w t)) _ (setIn w t k m) s (set-ends (8 * pagesOf w) t (decode w) (sound-valid w s) small k m g))
+  unfolding setSpace setAnswer
+  set-effect k m g = gated-effect w t (amend k m (listOf w t)) (setIn w t k m) (λ s. set-does w t s small k m g)
 
   pub drop-effect : Effect w (dropSpace w t) t [] (dropAnswer w t)
   unfolding dropSpace dropAnswer
-  drop-effect = effect w t [] (dropIn w t) (λ s. effect-sound w t [] _ (dropIn w t) s (drop-ends (8 * pagesOf w) t (decode w) (sound-valid w s) small))
+  drop-effect = gated-effect w t [] (dropIn w t) (λ s. drop-does w t s small)
 
 -- ---- lists
 

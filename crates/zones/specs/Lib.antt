@@ -27,3 +27,4 @@ pub mod ListedLaws
 pub mod ChangedLaws
 pub mod RecordLaws
 pub mod EditsLaws
+pub mod Effects
