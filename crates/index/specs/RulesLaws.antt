@@ -127,22 +127,28 @@ settle-count : (m : ℕ) (zs : List Zone) (o : Option (List Zone)) → isSome o 
 unfolding lowest
 settle-count m zs o i = settle-told m zs o ∙ rw i refl
 
+put-told : (w : List ℕ) (t : ℕ) (r : Record) → told (putIn w t r .answer)
+    ≡ lowest Refused
+    (rule 8 (held (look (key r) (listOf w t)))
+    ∷ rule 10 (not (ltb (length (listOf w t)) 989))
+    ∷ rule 11 (not (hasTag t (blocks (decode w)) || ltb (length (blocks (decode w))) 256))
+    ∷ rule 12 (not (isSome (change (8 * pagesOf w) t (insert r (listOf w t)) (decode w))))
+    ∷ [])
+    (Count (suc (length (listOf w t))))
+unfolding put listOf told lowest
+put-told w t r =
+    let rs : List Record = find t (blocks (decode w)) in
+    by-test (held (look (key r) rs))
+    (λ h. rw h refl)
+    (λ h. by-test (ltb (length rs) 989)
+    (λ g. by-test (hasTag t (blocks (decode w)) || ltb (length (blocks (decode w))) 256)
+    (λ f. rw (h, g, f) (settle-told (suc (length rs)) (decode w) (change (8 * pagesOf w) t (insert r rs) (decode w))))
+    (λ f. rw (h, g, f) refl))
+    (λ g. rw (h, g) refl))
+
 pub put-lowest : (w : List ℕ) (t : ℕ) (r : Record) → putAnswer w t r ≡ lowest Refused (putRules w t r) (Count (suc (length (listOf w t))))
-unfolding putAnswer putRules put listOf told lowest
-put-lowest w t r = gated-through (spaceGate w) (told (putIn w t r .answer)) ∙ through-space Refused w _ _ _ (λ s. answer)
-  where
-    answer : told (putIn w t r .answer)
-        ≡ lowest Refused (rule 8 (held (look (key r) (listOf w t))) ∷ rule 10 (not (ltb (length (listOf w t)) 989))
-        ∷ rule 11 (not (hasTag t (blocks (decode w)) || ltb (length (blocks (decode w))) 256)) ∷ rule 12 (not (isSome (change (8 * pagesOf w) t (insert r (listOf w t)) (decode w)))) ∷ [])
-        (Count (suc (length (listOf w t))))
-    answer =
-        by-test (held (look (key r) (find t (blocks (decode w)))))
-        (λ h. rw h refl)
-        (λ h. by-test (ltb (length (find t (blocks (decode w)))) 989)
-        (λ g. by-test (hasTag t (blocks (decode w)) || ltb (length (blocks (decode w))) 256)
-        (λ f. rw (h, g, f) (settle-told (suc (length (find t (blocks (decode w))))) (decode w) (change (8 * pagesOf w) t (insert r (find t (blocks (decode w)))) (decode w))))
-        (λ f. rw (h, g, f) refl))
-        (λ g. rw (h, g) refl))
+unfolding putAnswer putRules
+put-lowest w t r = gated-through (spaceGate w) (told (putIn w t r .answer)) ∙ through-space Refused w _ _ _ (λ s. put-told w t r)
 
 -- the others find room, so that "A delete never meets it"
 module _ (w : List ℕ) (t : ℕ) (small : t < 4294967296) where
@@ -155,30 +161,33 @@ module _ (w : List ℕ) (t : ℕ) (small : t < 4294967296) where
   no-longer : (k : ℕ) (xs : List Record) → sound w ≡ true → held (look k rs) ≡ true → length xs ≤ length rs → isSome (change (8 * pagesOf w) t xs zs) ≡ true
   no-longer k xs s h g = some-is (change (8 * pagesOf w) t xs zs) (shorter (8 * pagesOf w) t zs (sound-valid w s) small xs (has-held t k (blocks zs) h) g)
 
+  delete-told : (k : ℕ) → sound w ≡ true → told (deleteIn w t k .answer) ≡ lowest Refused (rule 9 (not (held (look k (listOf w t)))) ∷ []) (Count (length (remove k (listOf w t))))
+  unfolding delete listOf told lowest
+  delete-told k s = by-test (held (look k rs))
+      (λ h. rw h (settle-count (length (remove k rs)) zs (change (8 * pagesOf w) t (remove k rs) zs) (no-longer k (remove k rs) s h (length-remove k rs))))
+      (λ h. rw h refl)
+
   pub delete-lowest : (k : ℕ) → deleteAnswer w t k ≡ lowest Refused (recordRules w t k) (Count (length (remove k (listOf w t))))
-  unfolding deleteAnswer recordRules delete listOf told lowest
-  delete-lowest k = gated-through (spaceGate w) (told (deleteIn w t k .answer)) ∙ through-space Refused w _ _ _ answer
-    where
-      answer : sound w ≡ true → told (deleteIn w t k .answer) ≡ lowest Refused (rule 9 (not (held (look k (listOf w t)))) ∷ []) (Count (length (remove k (listOf w t))))
-      answer s = by-test (held (look k rs))
-          (λ h. rw h (settle-count (length (remove k rs)) zs (change (8 * pagesOf w) t (remove k rs) zs) (no-longer k (remove k rs) s h (length-remove k rs))))
-          (λ h. rw h refl)
+  unfolding deleteAnswer recordRules
+  delete-lowest k = gated-through (spaceGate w) (told (deleteIn w t k .answer)) ∙ through-space Refused w _ _ _ (delete-told k)
+
+  set-told : (k m : ℕ) → sound w ≡ true → told (setIn w t k m .answer) ≡ lowest Refused (rule 9 (not (held (look k (listOf w t)))) ∷ []) (Count (length (listOf w t)))
+  unfolding setMinutes listOf told lowest
+  set-told k m s = by-test (held (look k rs))
+      (λ h. rw h (settle-count (length rs) zs (change (8 * pagesOf w) t (amend k m rs) zs) (no-longer k (amend k m rs) s h (omega (arith, length-amend k m rs)))))
+      (λ h. rw h refl)
 
   pub set-lowest : (k m : ℕ) → setAnswer w t k m ≡ lowest Refused (recordRules w t k) (Count (length (listOf w t)))
-  unfolding setAnswer recordRules setMinutes listOf told lowest
-  set-lowest k m = gated-through (spaceGate w) (told (setIn w t k m .answer)) ∙ through-space Refused w _ _ _ answer
-    where
-      answer : sound w ≡ true → told (setIn w t k m .answer) ≡ lowest Refused (rule 9 (not (held (look k (listOf w t)))) ∷ []) (Count (length (listOf w t)))
-      answer s = by-test (held (look k rs))
-          (λ h. rw h (settle-count (length rs) zs (change (8 * pagesOf w) t (amend k m rs) zs) (no-longer k (amend k m rs) s h (omega (arith, length-amend k m rs)))))
-          (λ h. rw h refl)
+  unfolding setAnswer recordRules
+  set-lowest k m = gated-through (spaceGate w) (told (setIn w t k m .answer)) ∙ through-space Refused w _ _ _ (set-told k m)
+
+  drop-told : told (dropIn w t .answer) ≡ lowest Refused (rule 9 (not (hasTag t (blocks zs))) ∷ []) (Count 0)
+  unfolding dropTag told lowest
+  drop-told = by-test (hasTag t (blocks zs)) (λ h. rw h (settle-count 0 zs (change (8 * pagesOf w) t [] zs) (drop-some (8 * pagesOf w) t zs))) (λ h. rw h refl)
 
   pub drop-lowest : dropAnswer w t ≡ lowest Refused (dropRules w t) (Count 0)
-  unfolding dropAnswer dropRules dropTag told lowest
-  drop-lowest = gated-through (spaceGate w) (told (dropIn w t .answer)) ∙ through-space Refused w _ _ _ (λ s. answer)
-    where
-      answer : told (dropIn w t .answer) ≡ lowest Refused (rule 9 (not (hasTag t (blocks zs))) ∷ []) (Count 0)
-      answer = by-test (hasTag t (blocks zs)) (λ h. rw h (settle-count 0 zs (change (8 * pagesOf w) t [] zs) (drop-some (8 * pagesOf w) t zs))) (λ h. rw h refl)
+  unfolding dropAnswer dropRules
+  drop-lowest = gated-through (spaceGate w) (told (dropIn w t .answer)) ∙ through-space Refused w _ _ _ (λ s. drop-told)
 
 -- ---- the calls that store
 
