@@ -10,3 +10,4 @@ pub mod Claim
 pub mod Rules
 pub mod RulesLaws
 pub mod Demands
+pub mod Cases
