@@ -11,11 +11,11 @@ use Rattle.wire.specs.Cases.{by-test}
 use Rattle.records.specs.declared.Record.{Record}
 use Rattle.records.specs.Records.{key, look, insert, remove, risingFrom, bytesOf, recordAt, records}
 use Rattle.log.specs.declared.Outcome.{Outcome}
-use Rattle.log.specs.declared.Outcome.the-variants.{Done, Cut, Refused as Barred}
+use Rattle.log.specs.declared.Outcome.the-variants.{Done, Cut, Refused as CommitRefused}
 use Rattle.log.specs.Store.{apply, run}
 use Rattle.log.specs.Image.{letters, home, inRange, imageLength, headOk, headOf}
 use Rattle.log.specs.Entry.{Entry, entry, entries, rising, changes, logged, replay}
-use Rattle.log.specs.Calls.{answer, after, headPage, emptyImage, formatPlan, clearMark, recoverStores, logOk, committedPlan, recoverPlan, logStores, commitStores, changed, clearPlan, commitPlan}
+use Rattle.log.specs.Calls.{Plan, answer, after, headPage, emptyImage, formatPlan, clearMark, recoverStores, logOk, committedPlan, recoverPlan, logStores, commitStores, changed, clearPlan, commitPlan}
 use Rattle.log.specs.FormatLaws.{format-done}
 use Rattle.home.specs.Capacities.{capacity, cells, classOf}
 use Rattle.home.specs.Zones.{find, blocks, hasTag, rewritten, place, takeOut, change}
@@ -26,39 +26,43 @@ use Rattle.home.specs.Edits.{put, delete, dropTag}
 use Rattle.zones.specs.declared.Answer.{Answer}
 use Rattle.zones.specs.declared.Answer.the-variants.{Count, Refused}
 use Rattle.zones.specs.Edits.{told}
+use Rattle.index.specs.declared.Begun.{Begun}
+use Rattle.index.specs.declared.Begun.the-variants.{Done as BeginDone}
 use Rattle.index.specs.Gates.{byHead, imageGate, spaceGate, gatedAnswer, gatedBytes}
-use Rattle.index.specs.Reads.{counted, countImage, spaceAfter, beginSpace}
+use Rattle.index.specs.Reads.{counted, countImage, begun, spaceAfter, beginAnswer, beginSpace}
 use Rattle.index.specs.Edits.{putAnswer, putSpace, deleteAnswer, deleteSpace, dropAnswer, dropSpace}
 
 -- ---- what a row says
 
--- what is done: format and begin, with this L and R = 2; put to a tag, delete from it or drop it, the record being of this second;
--- commit with an allowance, and after a recovery look at a tag
+-- what is done. Starting: format with this L and R = 2, and begin. Putting, deleting: a tag, and the second of the record. Dropping: a tag.
+-- Comparing: workspace and home. Committing: an allowance. Cutting: commit with an allowance, recover, count a tag's list.
 pub data Call : Type 0 where
   starting : ℕ → Call
   putting : ℕ → ℕ → Call
   deleting : ℕ → ℕ → Call
   dropping : ℕ → Call
   comparing : Call
-  committing : ℕ → ℕ → Call
+  committing : ℕ → Call
+  cutting : ℕ → ℕ → Call
 
 -- a block: its tag, first cell and class
 pub data Lies : Type 0 where
   lies : ℕ → ℕ → ℕ → Lies
 
--- the home that a recovery leaves: as before the commit, or as the workspace
+-- the home that a recovery leaves: as it was before the commit, or the workspace
 pub data Found : Type 0 where
   old : Found
   new : Found
   neither : Found
 
--- the blocks at the start, by cell; an edit's answer and the blocks then; the pages in which workspace and home differ;
--- a commit's answer, the home found after a recovery, and the tag's record count there
+-- what comes of it: begin's answer, or an edit's, and all blocks by cell; the pages that differ; a commit's answer;
+-- a commit's answer, the home that the recovery leaves, and the count
 pub data Result : Type 0 where
-  started : List Lies → Result
+  began : Begun → List Lies → Result
   edited : Answer → List Lies → Result
   differ : List ℕ → Result
-  committed : Outcome → Found → Answer → Result
+  committed : Outcome → Result
+  recovered : Outcome → Found → Answer → Result
 
 pub record Row : Type 0 where
   pub case : ℕ
@@ -75,65 +79,73 @@ pub record State : Type 0 where
   pub image : List ℕ
   pub space : List ℕ
 
+-- the record of a second
 unfoldable pub of : ℕ → Record
-of s = record { level = 0; second = s; phone = 0; minutes = 0 }
+of n = record { level = 0; second = n; phone = 0; minutes = 0 }
 
--- the image that format leaves where all bytes were 255
+-- bytes to format, and to begin with: all 255
 unfoldable pub used : ℕ → List ℕ
 used L = replicate (imageLength L 2) 255
 
+unfoldable pub lent : List ℕ
+lent = replicate 1792 255
+
+-- "a fresh image": what format leaves
 unfoldable pub fresh : ℕ → List ℕ
 fresh L = after (formatPlan (used L) L 2) (imageLength L 2 + 1) (used L)
-
--- the state after a call; a commit is tried on the image as it stands
-unfoldable pub next : (ℕ → List ℕ) → Call → State → State
-next fresh (starting L) s = let l : List ℕ = fresh L in record { image = l; space = beginSpace l (replicate 1792 255) }
-next fresh (putting t n) s = record { image = s .image; space = putSpace (s .space) t (of n) }
-next fresh (deleting t n) s = record { image = s .image; space = deleteSpace (s .space) t (key (of n)) }
-next fresh (dropping t) s = record { image = s .image; space = dropSpace (s .space) t }
-next fresh comparing s = s
-next fresh (committing t n) s = s
 
 -- a workspace's blocks
 unfoldable pub laid : List ℕ → List Lies
 laid w = map (λ (s : Spot). lies (s .block .tag) (s .cell) (s .class)) (spots 0 (decode w))
 
+-- an image after a recovery with stores enough
+unfoldable pub mended : List ℕ → List ℕ
+mended l = after (recoverPlan l) 1000 l
+
 -- which of two homes this is
 unfoldable pub which : List ℕ → List ℕ → List ℕ → Found
 which h w x = pick (equal x h) old (pick (equal x w) new neither)
 
--- a recovery with stores enough
-unfoldable pub mended : List ℕ → List ℕ
-mended x = after (recoverPlan x) 1000 x
+-- of an image with home h: is it as h or as w, and how long is tag t's list
+unfoldable pub seen : Outcome → List ℕ → List ℕ → ℕ → List ℕ → Result
+seen a h w t l = recovered a (which h w (home l)) (countImage l t)
 
-unfoldable pub tried : List ℕ → List ℕ → Outcome → ℕ → List ℕ → Result
-tried l w a t x = committed a (which (home l) w (home x)) (countImage x t)
+-- the state after a call, `fresh` giving the image that a format leaves. A commit is tried on the image as it stands, and leaves none
+unfoldable pub next : (ℕ → List ℕ) → Call → State → State
+next fresh (starting L) s = let l : List ℕ = fresh L in record { image = l; space = beginSpace l lent }
+next fresh (putting t n) s = record { image = s .image; space = putSpace (s .space) t (of n) }
+next fresh (deleting t n) s = record { image = s .image; space = deleteSpace (s .space) t (key (of n)) }
+next fresh (dropping t) s = record { image = s .image; space = dropSpace (s .space) t }
+next fresh comparing s = s
+next fresh (committing n) s = s
+next fresh (cutting n t) s = s
 
--- what a call gives, and the state after it
+-- what a call gives, by the states before and after it
 unfoldable pub result : Call → State → State → Result
-result (starting L) s s' = started (laid (s' .space))
+result (starting L) s s' = began (beginAnswer (s' .image) lent) (laid (s' .space))
 result (putting t n) s s' = edited (putAnswer (s .space) t (of n)) (laid (s' .space))
 result (deleting t n) s s' = edited (deleteAnswer (s .space) t (key (of n))) (laid (s' .space))
 result (dropping t) s s' = edited (dropAnswer (s .space) t) (laid (s' .space))
 result comparing s s' = differ (map (λ (e : Entry). e .page) (changed (s .image) (s .space)))
-result (committing t n) s s' =
-    let p = commitPlan sound (s .image) (s .space) in
-    tried (s .image) (s .space) (answer p n) t (mended (after p n (s .image)))
+result (committing n) s s' = committed (answer (commitPlan sound (s .image) (s .space)) n)
+result (cutting n t) s s' =
+    let p : Plan = commitPlan sound (s .image) (s .space) in
+    seen (answer p n) (home (s .image)) (s .space) t (mended (after p n (s .image)))
 
--- the rows' calls, one after another, each with what it gives
+-- the rows' calls, one after another, with what each gives
 unfoldable pub follow : (ℕ → List ℕ) → List Row → State → List Row
 follow fresh [] s = []
 follow fresh (r ∷ rs) s =
     let s' : State = next fresh (r .call) s in
-    record { case = r .case; call = r .call; gives = result (r .call) s s' } ∷ follow fresh rs s'
+    row (r .case) (r .call) (result (r .call) s s') ∷ follow fresh rs s'
 
 -- ---- the table
 
 unfoldable pub expected : List Row
 expected =
     -- "R = 2 (16 cells), one edit after another."
+    row 1 (starting 28) (began BeginDone []) ∷
     -- 1. "Put to tag 7, then tag 9: blocks at cells 0 and 5."
-    row 1 (starting 28) (started []) ∷
     row 1 (putting 7 1) (edited (Count 1) (lies 7 0 0 ∷ [])) ∷
     row 1 (putting 9 1) (edited (Count 1) (lies 7 0 0 ∷ lies 9 5 0 ∷ [])) ∷
     -- 2. "Tag 7's fifth record: 9 is at 0, 7 at 5 in class 1."
@@ -159,29 +171,33 @@ expected =
     row 7 (dropping 7) (edited (Count 0) (lies 11 0 0 ∷ lies 13 10 1 ∷ [])) ∷
     row 7 (dropping 11) (edited (Count 0) (lies 13 4 1 ∷ [])) ∷
     -- 8. "First put to tag 7 on a fresh image, L = 28: pages 0, 2, 26 differ, 394 stores. Cut after 200: old. After 201: new."
-    row 8 (starting 28) (started []) ∷
+    row 8 (starting 28) (began BeginDone []) ∷
     row 8 (putting 7 1) (edited (Count 1) (lies 7 0 0 ∷ [])) ∷
     row 8 comparing (differ (0 ∷ 2 ∷ 26 ∷ [])) ∷
-    row 8 (committing 7 394) (committed (Done 394) new (Count 1)) ∷
-    row 8 (committing 7 393) (committed (Cut 393) new (Count 1)) ∷
-    row 8 (committing 7 200) (committed (Cut 200) old (Count 0)) ∷
-    row 8 (committing 7 201) (committed (Cut 201) new (Count 1)) ∷
+    row 8 (committing 393) (committed (Cut 393)) ∷
+    row 8 (committing 394) (committed (Done 394)) ∷
+    row 8 (cutting 200 7) (recovered (Cut 200) old (Count 0)) ∷
+    row 8 (cutting 201 7) (recovered (Cut 201) new (Count 1)) ∷
+    row 8 (cutting 394 7) (recovered (Done 394) new (Count 1)) ∷
     -- 9. "The same with tag 0: page 2 doesn't change, 264 stores."
-    row 9 (starting 28) (started []) ∷
+    row 9 (starting 28) (began BeginDone []) ∷
     row 9 (putting 0 1) (edited (Count 1) (lies 0 0 0 ∷ [])) ∷
     row 9 comparing (differ (0 ∷ 26 ∷ [])) ∷
-    row 9 (committing 0 264) (committed (Done 264) new (Count 1)) ∷
-    row 9 (committing 0 263) (committed (Cut 263) new (Count 1)) ∷
+    row 9 (committing 263) (committed (Cut 263)) ∷
+    row 9 (committing 264) (committed (Done 264)) ∷
     -- 10. "Case 8 with L = 2: 13."
-    row 10 (starting 2) (started []) ∷
+    row 10 (starting 2) (began BeginDone []) ∷
     row 10 (putting 7 1) (edited (Count 1) (lies 7 0 0 ∷ [])) ∷
     row 10 comparing (differ (0 ∷ 2 ∷ 26 ∷ [])) ∷
-    row 10 (committing 7 394) (committed (Barred 13) old (Count 0)) ∷
+    row 10 (committing 394) (committed (CommitRefused 13)) ∷
     []
 
--- what the definitions give for its calls, nothing being there at first
+-- what the definitions give for its calls; at first there is nothing
+abbrev pub nothing : State
+nothing = record { image = []; space = [] }
+
 unfoldable pub table : List Row
-table = follow fresh expected (record { image = []; space = [] })
+table = follow fresh expected nothing
 
 -- the same image with no store computed
 quick : ℕ → List ℕ
@@ -198,10 +214,10 @@ refuses L t = rw t
 formatted : (L : ℕ) → fresh L ≡ quick L
 formatted L = by-test (inRange L 2) (formats L) (refuses L)
 
-computed : follow quick expected (record { image = []; space = [] }) ≡ expected
-unfolding expected follow next result laid which mended tried quick used of putAnswer putSpace deleteAnswer deleteSpace dropAnswer dropSpace counted countImage spaceAfter beginSpace byHead imageGate spaceGate gatedAnswer gatedBytes told letters home inRange headOk headOf entry entries rising changes logged replay answer after headPage emptyImage clearMark recoverStores logOk committedPlan recoverPlan logStores commitStores clearPlan commitPlan apply run sized sound listOf valid decode zonesFrom encode spots put delete dropTag change place takeOut rewritten hasTag find blocks classOf capacity cells key look insert remove risingFrom bytesOf recordAt records part over get16 get32 bytes16 bytes32 equal blank
+computed : follow quick expected nothing ≡ expected
+unfolding expected follow next result laid which mended seen quick used lent of putAnswer putSpace deleteAnswer deleteSpace dropAnswer dropSpace counted countImage begun spaceAfter beginAnswer beginSpace byHead imageGate spaceGate gatedAnswer gatedBytes told letters home inRange headOk headOf entry entries rising changes logged replay answer after headPage emptyImage clearMark recoverStores logOk committedPlan recoverPlan logStores commitStores clearPlan commitPlan apply run sized sound listOf valid decode zonesFrom encode spots put delete dropTag change place takeOut rewritten hasTag find blocks classOf capacity cells key look insert remove risingFrom bytesOf recordAt records part over get16 get32 bytes16 bytes32 equal blank
 computed = refl
 
 pub cases : table ≡ expected
 unfolding table
-cases = ap (λ (f : ℕ → List ℕ). follow f expected (record { image = []; space = [] })) (λ i. λ (L : ℕ). formatted L i) ∙ computed
+cases = ap (λ (f : ℕ → List ℕ). follow f expected nothing) (λ i. λ (L : ℕ). formatted L i) ∙ computed
