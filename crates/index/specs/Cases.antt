@@ -1,4 +1,4 @@
--- Document 01's starred bench cases, 1 to 10: one table, computed from the definitions that the calls' contracts cite.
+-- The specification's starred bench cases, 1 to 10: one table, computed from the definitions that the calls' contracts cite.
 use mathlib.Core.Path.{_≡_, refl, ap, _∙_}
 use mathlib.Core.Bool.{true, false, _&&_}
 use mathlib.Core.List.{List, [], _∷_, map}
