@@ -10,4 +10,3 @@ pub mod Claim
 pub mod Rules
 pub mod RulesLaws
 pub mod Demands
-pub mod Cases
