@@ -1,11 +1,10 @@
 -- The specification's starred bench cases, 1 to 10: one table, computed from the definitions that the calls' contracts cite.
 use mathlib.Core.Path.{_≡_, refl, ap, _∙_}
-use mathlib.Core.Bool.{true, false, _&&_}
+use mathlib.Core.Bool.{true, false}
 use mathlib.Core.List.{List, [], _∷_, map}
 use Prim.Native.Nat.{ℕ, _+_, _*_}
 use native.Mathlib.Omega.{arith}
-use lib.Dec.{eqb}
-use lib.ListN.{length, replicate, length-replicate}
+use lib.ListN.{replicate, length-replicate}
 use Rattle.wire.specs.Bytes.{pick, part, over, get16, get32, bytes16, bytes32, equal, blank}
 use Rattle.wire.specs.Cases.{by-test}
 use Rattle.records.specs.declared.Record.{Record}
@@ -23,9 +22,9 @@ use Rattle.home.specs.Valid.{valid}
 use Rattle.home.specs.Bytes.{Spot, spots, encode, decode, zonesFrom}
 use Rattle.home.specs.Sound.{sound, sized, listOf}
 use Rattle.home.specs.Edits.{put, delete, dropTag}
-use Rattle.zones.specs.declared.Answer.{Answer}
-use Rattle.zones.specs.declared.Answer.the-variants.{Count, Refused}
-use Rattle.zones.specs.Edits.{told}
+use Rattle.edits.specs.declared.Answer.{Answer}
+use Rattle.edits.specs.declared.Answer.the-variants.{Count, Refused}
+use Rattle.edits.specs.Edits.{told}
 use Rattle.index.specs.declared.Begun.{Begun}
 use Rattle.index.specs.declared.Begun.the-variants.{Done as BeginDone}
 use Rattle.index.specs.Gates.{byHead, imageGate, spaceGate, gatedAnswer, gatedBytes}
@@ -35,7 +34,7 @@ use Rattle.index.specs.Edits.{putAnswer, putSpace, deleteAnswer, deleteSpace, d
 -- ---- what a row says
 
 -- what is done. Starting: format with this L and R = 2, and begin. Putting, deleting: a tag, and the second of the record. Dropping: a tag.
--- Comparing: workspace and home. Committing: an allowance. Cutting: commit with an allowance, recover, count a tag's list.
+-- Comparing: workspace and home. Committing: an allowance. Recovering: commit with an allowance, recover, count a tag's list.
 pub data Call : Type 0 where
   starting : ℕ → Call
   putting : ℕ → ℕ → Call
@@ -43,7 +42,7 @@ pub data Call : Type 0 where
   dropping : ℕ → Call
   comparing : Call
   committing : ℕ → Call
-  cutting : ℕ → ℕ → Call
+  recovering : ℕ → ℕ → Call
 
 -- a block: its tag, first cell and class
 pub data Lies : Type 0 where
@@ -102,15 +101,15 @@ laid w = map (λ (s : Spot). lies (s .block .tag) (s .cell) (s .class)) (spots 0
 unfoldable pub mended : List ℕ → List ℕ
 mended l = after (recoverPlan l) 1000 l
 
--- which of two homes this is
+-- whether bytes are home h or workspace w
 unfoldable pub which : List ℕ → List ℕ → List ℕ → Found
 which h w x = pick (equal x h) old (pick (equal x w) new neither)
 
--- of an image with home h: is it as h or as w, and how long is tag t's list
+-- a commit's answer, and what is seen in the image l afterwards: which home, h or w, and how many records tag t has
 unfoldable pub seen : Outcome → List ℕ → List ℕ → ℕ → List ℕ → Result
 seen a h w t l = recovered a (which h w (home l)) (countImage l t)
 
--- the state after a call, `fresh` giving the image that a format leaves. A commit is tried on the image as it stands, and leaves none
+-- the state after a call; `fresh` gives the image that a format leaves. Each commit is tried on the same image
 unfoldable pub next : (ℕ → List ℕ) → Call → State → State
 next fresh (starting L) s = let l : List ℕ = fresh L in record { image = l; space = beginSpace l lent }
 next fresh (putting t n) s = record { image = s .image; space = putSpace (s .space) t (of n) }
@@ -118,7 +117,7 @@ next fresh (deleting t n) s = record { image = s .image; space = deleteSpace (s 
 next fresh (dropping t) s = record { image = s .image; space = dropSpace (s .space) t }
 next fresh comparing s = s
 next fresh (committing n) s = s
-next fresh (cutting n t) s = s
+next fresh (recovering n t) s = s
 
 -- what a call gives, by the states before and after it
 unfoldable pub result : Call → State → State → Result
@@ -128,11 +127,11 @@ result (deleting t n) s s' = edited (deleteAnswer (s .space) t (key (of n))) (la
 result (dropping t) s s' = edited (dropAnswer (s .space) t) (laid (s' .space))
 result comparing s s' = differ (map (λ (e : Entry). e .page) (changed (s .image) (s .space)))
 result (committing n) s s' = committed (answer (commitPlan sound (s .image) (s .space)) n)
-result (cutting n t) s s' =
+result (recovering n t) s s' =
     let p : Plan = commitPlan sound (s .image) (s .space) in
     seen (answer p n) (home (s .image)) (s .space) t (mended (after p n (s .image)))
 
--- the rows' calls, one after another, with what each gives
+-- the rows' calls, one after another, each with what it gives; what a row says that it gives is not looked at
 unfoldable pub follow : (ℕ → List ℕ) → List Row → State → List Row
 follow fresh [] s = []
 follow fresh (r ∷ rs) s =
@@ -175,10 +174,9 @@ expected =
     row 8 (putting 7 1) (edited (Count 1) (lies 7 0 0 ∷ [])) ∷
     row 8 comparing (differ (0 ∷ 2 ∷ 26 ∷ [])) ∷
     row 8 (committing 393) (committed (Cut 393)) ∷
-    row 8 (committing 394) (committed (Done 394)) ∷
-    row 8 (cutting 200 7) (recovered (Cut 200) old (Count 0)) ∷
-    row 8 (cutting 201 7) (recovered (Cut 201) new (Count 1)) ∷
-    row 8 (cutting 394 7) (recovered (Done 394) new (Count 1)) ∷
+    row 8 (recovering 394 7) (recovered (Done 394) new (Count 1)) ∷
+    row 8 (recovering 200 7) (recovered (Cut 200) old (Count 0)) ∷
+    row 8 (recovering 201 7) (recovered (Cut 201) new (Count 1)) ∷
     -- 9. "The same with tag 0: page 2 doesn't change, 264 stores."
     row 9 (starting 28) (began BeginDone []) ∷
     row 9 (putting 0 1) (edited (Count 1) (lies 0 0 0 ∷ [])) ∷
@@ -199,7 +197,8 @@ nothing = record { image = []; space = [] }
 unfoldable pub table : List Row
 table = follow fresh expected nothing
 
--- the same image with no store computed
+-- ---- the proof: what format leaves is known by law, without its stores; all else is computed
+
 quick : ℕ → List ℕ
 quick L = pick (inRange L 2) (emptyImage L 2) (used L)
 

@@ -28,9 +28,9 @@ use Rattle.home.specs.Layout.{Valid}
 use Rattle.log.specs.FormatLaws.{format-done, empty-head, empty-mark, empty-home}
 use Rattle.home.specs.Sound.{sized, sound, listOf}
 use Rattle.home.specs.SoundLaws.{sound-encode, listOf-encode}
-use Rattle.zones.specs.declared.Answer.the-variants.{Count}
-use Rattle.zones.specs.Effects.{Effect, put-does, delete-does, set-does, drop-does}
-use Rattle.zones.specs.Edits.{told, putIn, deleteIn, setIn, dropIn, leaves}
+use Rattle.edits.specs.declared.Answer.the-variants.{Count}
+use Rattle.edits.specs.Effects.{Effect, put-does, delete-does, set-does, drop-does}
+use Rattle.edits.specs.Edits.{told, putIn, deleteIn, setIn, dropIn, leaves}
 use Rattle.index.specs.declared.Gate.{Gate}
 use Rattle.index.specs.declared.Gate.the-variants.{Open, Shut}
 use Rattle.index.specs.Gates.{byHead, imageGate, spaceGate, gatedAnswer, gatedBytes}

@@ -3,8 +3,8 @@ use Prim.Native.Nat.{ℕ}
 use mathlib.Core.List.{List}
 use Rattle.records.specs.declared.Record.{Record}
 use Rattle.home.specs.Edits.{Edited}
-use Rattle.zones.specs.declared.Answer.{Answer}
-use Rattle.zones.specs.Edits.{told, putIn, deleteIn, setIn, dropIn, leaves}
+use Rattle.edits.specs.declared.Answer.{Answer}
+use Rattle.edits.specs.Edits.{told, putIn, deleteIn, setIn, dropIn, leaves}
 use Rattle.index.specs.Gates.{spaceGate, gatedAnswer, gatedBytes}
 
 -- what an edit of a workspace answers and leaves

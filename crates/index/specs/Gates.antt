@@ -6,8 +6,8 @@ use Rattle.log.specs.declared.Head.{Head}
 use Rattle.log.specs.declared.Head.the-variants.{Bad, Clear, Committed}
 use Rattle.log.specs.Image.{home, headOf}
 use Rattle.home.specs.Sound.{sized, sound}
-use Rattle.zones.specs.declared.Answer.{Answer}
-use Rattle.zones.specs.declared.Answer.the-variants.{Refused}
+use Rattle.edits.specs.declared.Answer.{Answer}
+use Rattle.edits.specs.declared.Answer.the-variants.{Refused}
 use Rattle.index.specs.declared.Gate.{Gate}
 use Rattle.index.specs.declared.Gate.the-variants.{Open, Shut}
 

@@ -9,8 +9,8 @@ use Rattle.records.specs.declared.Merge.{Merge}
 use Rattle.records.specs.Records.{merge, encode}
 use Rattle.log.specs.Image.{home}
 use Rattle.home.specs.Sound.{listOf}
-use Rattle.zones.specs.declared.Answer.{Answer}
-use Rattle.zones.specs.declared.Answer.the-variants.{Count, Refused}
+use Rattle.edits.specs.declared.Answer.{Answer}
+use Rattle.edits.specs.declared.Answer.the-variants.{Count, Refused}
 use Rattle.index.specs.Gates.{imageGate, spaceGate, gatedAnswer, gatedBytes}
 
 -- "15: output shorter than the records to write"; "Answer: the number of records. Bytes beyond them stay."

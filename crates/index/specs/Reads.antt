@@ -9,8 +9,8 @@ use Rattle.log.specs.Image.{home}
 use Rattle.home.specs.Sound.{listOf}
 use Rattle.index.specs.declared.Gate.{Gate}
 use Rattle.index.specs.declared.Gate.the-variants.{Open, Shut}
-use Rattle.zones.specs.declared.Answer.{Answer}
-use Rattle.zones.specs.declared.Answer.the-variants.{Count, Refused}
+use Rattle.edits.specs.declared.Answer.{Answer}
+use Rattle.edits.specs.declared.Answer.the-variants.{Count, Refused}
 use Rattle.index.specs.declared.Begun.{Begun}
 use Rattle.index.specs.declared.Begun.the-variants.{Done, Unbegun}
 use Rattle.index.specs.Gates.{imageGate, spaceGate}

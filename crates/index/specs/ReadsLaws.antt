@@ -6,7 +6,7 @@ use lib.ListN.{length}
 use borrow.Author.Tests.{eq-eqb, ne-eqb}
 use Rattle.index.specs.declared.Gate.{Gate}
 use Rattle.index.specs.declared.Gate.the-variants.{Open, Shut}
-use Rattle.zones.specs.declared.Answer.the-variants.{Count, Refused}
+use Rattle.edits.specs.declared.Answer.the-variants.{Count, Refused}
 use Rattle.index.specs.declared.Begun.the-variants.{Done, Unbegun}
 use Rattle.index.specs.Reads.{counted, shown, begun, spaceAfter}
 

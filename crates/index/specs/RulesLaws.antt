@@ -22,12 +22,12 @@ use Rattle.home.specs.EditsLaws.{length-remove, length-amend, has-held, shorter
 use Rattle.home.specs.Bytes.{decode}
 use Rattle.home.specs.Sound.{sized, sound, pagesOf, listOf}
 use Rattle.room.specs.Spans.{isSome}
-use Rattle.zones.specs.declared.Answer.{Answer}
-use Rattle.zones.specs.declared.Answer.the-variants.{Count, Refused}
+use Rattle.edits.specs.declared.Answer.{Answer}
+use Rattle.edits.specs.declared.Answer.the-variants.{Count, Refused}
 use Rattle.zones.specs.SoundLaws.{sound-valid}
-use Rattle.zones.specs.RecordLaws.{some-is}
-use Rattle.zones.specs.EditsLaws.{drop-some}
-use Rattle.zones.specs.Edits.{told, putIn, deleteIn, setIn, dropIn}
+use Rattle.edits.specs.RecordLaws.{some-is}
+use Rattle.edits.specs.EditsLaws.{drop-some}
+use Rattle.edits.specs.Edits.{told, putIn, deleteIn, setIn, dropIn}
 use Rattle.index.specs.declared.Gate.{Gate}
 use Rattle.index.specs.declared.Gate.the-variants.{Open, Shut}
 use Rattle.index.specs.declared.Begun.the-variants.{Done, Unbegun}

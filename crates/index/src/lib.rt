@@ -1,9 +1,9 @@
 // The call index: the calls on an image and on a workspace.
+use edits::Answer;
 use log::Head;
 use log::Outcome;
 use records::Merge;
 use records::Record;
-use zones::Answer;
 ghost use mathlib.Core.Path.{_≡_};
 ghost use lib.ListN.{length};
 ghost use lib.Dec.{eqb};
@@ -123,7 +123,7 @@ pub fn put(space: &mut [u8], tag: u32, r: Record) -> Answer
     ensures { λ _. ⌜ now (space .exit) ≡ putSpace (now (space .entry)) tag r ⌝ }
 {
     match space_gate(space) {
-        Gate::Open => zones::put(space, tag, r),
+        Gate::Open => edits::put(space, tag, r),
         Gate::Shut(n) => Answer::Refused(n),
     }
 }
@@ -134,7 +134,7 @@ pub fn delete(space: &mut [u8], tag: u32, r: Record) -> Answer
     ensures { λ _. ⌜ now (space .exit) ≡ deleteSpace (now (space .entry)) tag (key r) ⌝ }
 {
     match space_gate(space) {
-        Gate::Open => zones::delete(space, tag, records::key_of(r)),
+        Gate::Open => edits::delete(space, tag, records::key_of(r)),
         Gate::Shut(n) => Answer::Refused(n),
     }
 }
@@ -145,7 +145,7 @@ pub fn set_minutes(space: &mut [u8], tag: u32, r: Record) -> Answer
     ensures { λ _. ⌜ now (space .exit) ≡ setSpace (now (space .entry)) tag (key r) (r .minutes) ⌝ }
 {
     match space_gate(space) {
-        Gate::Open => zones::set_minutes(space, tag, records::key_of(r), r.minutes),
+        Gate::Open => edits::set_minutes(space, tag, records::key_of(r), r.minutes),
         Gate::Shut(n) => Answer::Refused(n),
     }
 }
@@ -156,7 +156,7 @@ pub fn drop_tag(space: &mut [u8], tag: u32) -> Answer
     ensures { λ _. ⌜ now (space .exit) ≡ dropSpace (now (space .entry)) tag ⌝ }
 {
     match space_gate(space) {
-        Gate::Open => zones::drop_tag(space, tag),
+        Gate::Open => edits::drop_tag(space, tag),
         Gate::Shut(n) => Answer::Refused(n),
     }
 }

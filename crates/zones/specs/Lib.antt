@@ -20,11 +20,3 @@ pub mod BlockLaws
 pub mod OutLaws
 pub mod Place
 pub mod PlaceLaws
-pub mod Lists
-pub mod ListsLaws
-pub mod Edits
-pub mod ListedLaws
-pub mod ChangedLaws
-pub mod RecordLaws
-pub mod EditsLaws
-pub mod Effects

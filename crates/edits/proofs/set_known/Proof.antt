@@ -1,0 +1,53 @@
+use mathlib.Core.Path.{sym, ap, _∙_}
+use native.Mathlib.Omega.{arith}
+use Rattle.records.specs.Records.{place as placeOf}
+use Rattle.edits.specs.ListedLaws.{listed-inside, listed-rising, listed-records}
+use Rattle.edits.specs.RecordLaws.{ranked-under}
+use Rattle.edits.specs.EditsLaws.{found-held, absent-held, set-none, set-done}
+use borrow.Author.Needs.{needs}
+use Rattle.edits.proofs.set_known.Statement.{statement}
+use Rattle.edits.proofs.set_known.Tie as tie
+
+search-at-requires : tie.Need-search-at-requires
+search-at-requires c κs = (listed-inside _ _ _ _ (c .before .before .pre), listed-rising _ _ _ _ (c .before .before .pre))
+
+enum-known-j : tie.Need-enum-known-j
+enum-known-j c = search needs
+
+set-here-requires : tie.Need-set-here-requires
+set-here-requires c κs =
+    let f = found-held _ (c .before .before .j .given .0 .0) _ (sym (c .before .before .j .given .1) ∙ c .before .before .before .before .search-at .ensures ∙ ap (placeOf (c .before .before .before .before .before .before .before .args .key)) (listed-records _ _ _ _ (c .before .before .before .before .before .before .before .pre))) in
+    (ranked-under _ _ _ _ _ (record { listed = c .before .before .before .before .before .before .before .pre; key = c .before .before .before .before .before .before .before .args .key; held = f .0; rank = f .1 }), listed-inside _ _ _ _ (c .before .before .before .before .before .before .before .pre))
+
+enum-told : tie.Need-enum-told
+enum-told c = search needs
+
+same-length : tie.Need-same-length
+same-length c = search needs
+
+returns : tie.Need-returns
+returns c =
+    let f = found-held _ (c .before .before .before .before .before .j .given .0 .0) _ (sym (c .before .before .before .before .before .j .given .1) ∙ c .before .before .before .before .before .before .before .search-at .ensures ∙ ap (placeOf (c .before .before .before .before .before .before .before .before .before .before .args .key)) (listed-records _ _ _ _ (c .before .before .before .before .before .before .before .before .before .before .pre))) in
+    let d = set-done _ _ _ _ _ (c .before .before .before .before .before .before .before .before .before .before .args .minutes) (record { listed = c .before .before .before .before .before .before .before .before .before .before .pre; key = c .before .before .before .before .before .before .before .before .before .before .args .key; held = f .0; rank = f .1 }) (omega arith) in
+    (d .0, c .before .before .set-here .ensures ∙ d .1)
+
+same-length-2 : tie.Need-same-length-2
+same-length-2 c = search needs
+
+returns-2 : tie.Need-returns-2
+returns-2 c =
+    let a = absent-held _ (c .enum-told .given .0 .0) _ (sym (c .enum-told .given .1) ∙ c .before .before .search-at .ensures ∙ ap (placeOf (c .before .before .before .before .before .args .key)) (listed-records _ _ _ _ (c .before .before .before .before .before .pre))) in
+    set-none _ _ _ _ (c .before .before .before .before .before .pre) _ _ (a .0)
+
+pub set-known-spec : {M : Type 1} → statement M
+set-known-spec =
+    tie.close
+    (tie.spec
+    search-at-requires
+    enum-known-j
+    set-here-requires
+    enum-told
+    same-length
+    returns
+    same-length-2
+    returns-2)

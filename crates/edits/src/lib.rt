@@ -1,0 +1,216 @@
+// The edits of a sound workspace, in place: put, delete, set minutes and drop.
+mod change;
+mod lists;
+
+use change::insert_moving;
+use change::remove_record;
+use home::classes::class_of;
+use home::lookup::Slot;
+use home::lookup::find;
+use lists::insert_here;
+use lists::set_here;
+use records::Place;
+use records::Record;
+use zones::take::take_out;
+ghost use mathlib.Core.Path.{_≡_};
+ghost use mathlib.Core.Bool.{true, false};
+ghost use Prim.Native.Nat.{_+_, _*_, _≤_, _<_};
+ghost use lib.ListN.{length};
+ghost use Rattle.records.specs.Records.{records as recordsAt, place as placeOf, rising};
+ghost use Rattle.home.specs.Capacities.{cells as sizeOf};
+ghost use Rattle.home.specs.Zones.{blocks, hasTag};
+ghost use Rattle.home.specs.Bytes.{decode, countAt};
+ghost use Rattle.home.specs.Checks.{placeAt};
+ghost use Rattle.home.specs.Sound.{sound, pagesOf};
+ghost use Rattle.room.specs.Spans.{spans, roomS};
+ghost use Rattle.edits.specs.Lists.{listAt};
+ghost use Rattle.edits.specs.Edits.{told, putIn, deleteIn, setIn, dropIn, leaves, Listed, Placed};
+
+// What an edit answers: the list's record count afterwards, or refused with its number.
+pub enum Answer {
+    Count(usize),
+    Refused(u8),
+}
+
+// The cell of the block to which the i-th entry leads.
+fn cell_of(home: &[u8], i: usize) -> usize
+    requires { ⌜ (i < 256) × (1664 ≤ length (now home)) ⌝ }
+    ensures { λ r. ⌜ (r ≡ placeAt (now (home .entry)) i) × (r < 65536) ⌝ }
+{
+    wire::get16(home, 128 + 6 * i + 4)
+}
+
+// The record count of the block at cell p.
+fn count_of(home: &[u8], p: usize) -> usize
+    requires { ⌜ listAt p ≤ length (now home) ⌝ }
+    ensures { λ r. ⌜ (r ≡ countAt (now (home .entry)) p) × (r < 65536) ⌝ }
+{
+    wire::get16(home, 1664 + 8 * p + 4)
+}
+
+// Finds a key among the n records of the block at cell p.
+fn search_at(home: &[u8], p: usize, n: usize, key: u64) -> Place
+    requires { ⌜ (listAt p + 8 * n ≤ length (now home)) × (rising (recordsAt (now home) (listAt p) n) ≡ true) ⌝ }
+    ensures { λ r. ⌜ r ≡ placeOf key (recordsAt (now (home .entry)) (listAt p) n) ⌝ }
+{
+    let at = 1664 + 8 * p + 8;
+    let end = at + 8 * n;
+    records::search(&home[at..end], key)
+}
+
+// Whether a block of class d finds room once one of class c is taken out.
+fn room_after(home: &[u8], c: usize, d: usize) -> bool
+    requires { ⌜ (c < 30) × (d < 30) × (length (now home) ≡ 1664 + 64 * pagesOf (now home)) ⌝ }
+    ensures { λ r. ⌜ r ≡ roomS sizeOf (8 * pagesOf (now (home .entry))) c d (spans (decode (now (home .entry)))) ⌝ }
+{
+    let area = (home.len() - 1664) / 8;
+    room::has_room_after(room::read_table(home), area, c, d)
+}
+
+// Puts a record in at its rank among the n records of the tag's block at cell p.
+fn insert_record(home: &mut [u8], tag: u32, p: usize, n: usize, j: usize, r: Record) -> Answer
+    requires { ⌜ Placed (now home) tag p n j r ⌝ }
+    ensures { λ a. ⌜ a ≡ told (putIn (now (home .entry)) tag r .answer) ⌝ }
+    ensures { λ _. ⌜ now (home .exit) ≡ leaves (now (home .entry)) (putIn (now (home .entry)) tag r) ⌝ }
+{
+    if n == 989 {
+        return Answer::Refused(10);
+    }
+    let c = class_of(n);
+    let d = class_of(n + 1);
+    if d == c {
+        insert_here(home, p, n, j, r);
+        return Answer::Count(n + 1);
+    }
+    if !room_after(home, c, d) {
+        return Answer::Refused(12);
+    }
+    let mut aside = [0; 7912];
+    insert_moving(home, tag, p, n, j, r, &mut aside);
+    Answer::Count(n + 1)
+}
+
+// Puts a record to a tag that has a block of n records at cell p.
+fn put_known(home: &mut [u8], tag: u32, p: usize, n: usize, r: Record) -> Answer
+    requires { ⌜ Listed (now home) tag p n ⌝ }
+    ensures { λ a. ⌜ a ≡ told (putIn (now (home .entry)) tag r .answer) ⌝ }
+    ensures { λ _. ⌜ now (home .exit) ≡ leaves (now (home .entry)) (putIn (now (home .entry)) tag r) ⌝ }
+{
+    match search_at(home, p, n, records::key_of(r)) {
+        Place::Found(_) => Answer::Refused(8),
+        Place::Absent(j) => insert_record(home, tag, p, n, j, r),
+    }
+}
+
+// Puts a record to a tag that has none.
+fn put_new(home: &mut [u8], tag: u32, r: Record) -> Answer
+    requires { ⌜ (sound (now home) ≡ true) × (hasTag tag (blocks (decode (now home))) ≡ false) ⌝ }
+    ensures { λ a. ⌜ a ≡ told (putIn (now (home .entry)) tag r .answer) ⌝ }
+    ensures { λ _. ⌜ now (home .exit) ≡ leaves (now (home .entry)) (putIn (now (home .entry)) tag r) ⌝ }
+{
+    if wire::get16(home, 0) == 256 {
+        return Answer::Refused(11);
+    }
+    let mut list = [0; 8];
+    records::insert(&mut list, 0, r);
+    if zones::place::place(home, tag, &list) {
+        Answer::Count(1)
+    } else {
+        Answer::Refused(12)
+    }
+}
+
+// Puts a record to a tag's list. Refused: 8, listed already; 10, 989 records; 11, 256 tags; 12, no room.
+pub fn put(home: &mut [u8], tag: u32, r: Record) -> Answer
+    requires { ⌜ sound (now home) ≡ true ⌝ }
+    ensures { λ a. ⌜ a ≡ told (putIn (now (home .entry)) tag r .answer) ⌝ }
+    ensures { λ _. ⌜ now (home .exit) ≡ leaves (now (home .entry)) (putIn (now (home .entry)) tag r) ⌝ }
+{
+    match find(home, tag) {
+        Slot::At(i) => {
+            let p = cell_of(home, i);
+            let n = count_of(home, p);
+            put_known(home, tag, p, n, r)
+        }
+        Slot::Absent(_) => put_new(home, tag, r),
+    }
+}
+
+// Deletes a record of a tag that has a block of n records at cell p.
+fn delete_known(home: &mut [u8], tag: u32, p: usize, n: usize, key: u64) -> Answer
+    requires { ⌜ Listed (now home) tag p n ⌝ }
+    ensures { λ a. ⌜ a ≡ told (deleteIn (now (home .entry)) tag key .answer) ⌝ }
+    ensures { λ _. ⌜ now (home .exit) ≡ leaves (now (home .entry)) (deleteIn (now (home .entry)) tag key) ⌝ }
+{
+    match search_at(home, p, n, key) {
+        Place::Found(j) => {
+            remove_record(home, tag, p, n, j);
+            Answer::Count(n - 1)
+        }
+        Place::Absent(_) => Answer::Refused(9),
+    }
+}
+
+// Deletes the record with this primary part from a tag's list. Refused: 9, no such record.
+pub fn delete(home: &mut [u8], tag: u32, key: u64) -> Answer
+    requires { ⌜ sound (now home) ≡ true ⌝ }
+    ensures { λ a. ⌜ a ≡ told (deleteIn (now (home .entry)) tag key .answer) ⌝ }
+    ensures { λ _. ⌜ now (home .exit) ≡ leaves (now (home .entry)) (deleteIn (now (home .entry)) tag key) ⌝ }
+{
+    match find(home, tag) {
+        Slot::At(i) => {
+            let p = cell_of(home, i);
+            let n = count_of(home, p);
+            delete_known(home, tag, p, n, key)
+        }
+        Slot::Absent(_) => Answer::Refused(9),
+    }
+}
+
+// Sets the minutes of a record of a tag that has a block of n records at cell p.
+fn set_known(home: &mut [u8], tag: u32, p: usize, n: usize, key: u64, minutes: u8) -> Answer
+    requires { ⌜ Listed (now home) tag p n ⌝ }
+    ensures { λ a. ⌜ a ≡ told (setIn (now (home .entry)) tag key minutes .answer) ⌝ }
+    ensures { λ _. ⌜ now (home .exit) ≡ leaves (now (home .entry)) (setIn (now (home .entry)) tag key minutes) ⌝ }
+{
+    match search_at(home, p, n, key) {
+        Place::Found(j) => {
+            set_here(home, p, n, j, minutes);
+            Answer::Count(n)
+        }
+        Place::Absent(_) => Answer::Refused(9),
+    }
+}
+
+// Sets the minutes of the record with this primary part in a tag's list. Refused: 9, no such record.
+pub fn set_minutes(home: &mut [u8], tag: u32, key: u64, minutes: u8) -> Answer
+    requires { ⌜ sound (now home) ≡ true ⌝ }
+    ensures { λ a. ⌜ a ≡ told (setIn (now (home .entry)) tag key minutes .answer) ⌝ }
+    ensures { λ _. ⌜ now (home .exit) ≡ leaves (now (home .entry)) (setIn (now (home .entry)) tag key minutes) ⌝ }
+{
+    match find(home, tag) {
+        Slot::At(i) => {
+            let p = cell_of(home, i);
+            let n = count_of(home, p);
+            set_known(home, tag, p, n, key, minutes)
+        }
+        Slot::Absent(_) => Answer::Refused(9),
+    }
+}
+
+// Drops a tag with its list. Refused: 9, no such tag.
+pub fn drop_tag(home: &mut [u8], tag: u32) -> Answer
+    requires { ⌜ sound (now home) ≡ true ⌝ }
+    ensures { λ a. ⌜ a ≡ told (dropIn (now (home .entry)) tag .answer) ⌝ }
+    ensures { λ _. ⌜ now (home .exit) ≡ leaves (now (home .entry)) (dropIn (now (home .entry)) tag) ⌝ }
+{
+    match find(home, tag) {
+        Slot::At(i) => {
+            let p = cell_of(home, i);
+            let n = count_of(home, p);
+            take_out(home, tag, class_of(n), p);
+            Answer::Count(0)
+        }
+        Slot::Absent(_) => Answer::Refused(9),
+    }
+}
