@@ -69,8 +69,8 @@ pub fn remove_entry(home: &mut [u8], tag: u32)
 {
     let n = wire::get16(home, 0);
     let i = index_of(home, tag);
-    let at = 128 + 6 * i;
-    wire::copy_within(home, at + 6, at, 6 * (n - (i + 1)));
+    let gone = 128 + 6 * i;
+    wire::copy_within(home, gone + 6, gone, 6 * (n - (i + 1)));
     wire::fill(home, 128 + 6 * (n - 1), 6, 0);
     wire::put16(home, 0, n - 1);
 }

@@ -9,11 +9,11 @@ get16-requires c κs = search needs
 index-of-requires : tie.Need-index-of-requires
 index-of-requires c κs = search needs
 
-mul-at : tie.Need-mul-at
-mul-at c = search needs
+mul-gone : tie.Need-mul-gone
+mul-gone c = search needs
 
-add-at : tie.Need-add-at
-add-at c = search needs
+add-gone : tie.Need-add-gone
+add-gone c = search needs
 
 add-copy-within : tie.Need-add-copy-within
 add-copy-within c = search needs
@@ -60,8 +60,8 @@ remove-entry-spec =
     (tie.spec
     get16-requires
     index-of-requires
-    mul-at
-    add-at
+    mul-gone
+    add-gone
     add-copy-within
     add-copy-within-2
     sub-copy-within
