@@ -1,0 +1,20 @@
+use mathlib.Core.Path.{refl}
+use Rattle.lines.specs.PrintLaws.{bad-line}
+use borrow.Author.Needs.{needs}
+use Rattle.lines.proofs.print.put_bad.Statement.{statement}
+use Rattle.lines.proofs.print.put_bad.Tie as tie
+
+slice-aggregate-copy : tie.Need-slice-aggregate-copy
+slice-aggregate-copy c = search needs
+
+copy-requires : tie.Need-copy-requires
+copy-requires c κs = search needs
+
+same-length : tie.Need-same-length
+same-length c = search needs
+
+returns : tie.Need-returns
+returns c = rw bad-line (c .before .before .copy .ensures, refl)
+
+pub put-bad-spec : {M : Type 1} → statement M
+put-bad-spec = tie.close (tie.spec slice-aggregate-copy copy-requires same-length returns)

@@ -1,0 +1,94 @@
+-- A line and its whole answer.
+use mathlib.Core.Bool.{Bool, true, false}
+use mathlib.Core.List.{List}
+use Prim.Native.Nat.{ℕ}
+use lib.Dec.{leb}
+use lib.ListN.{length}
+use Rattle.wire.specs.Bytes.{pick, over}
+use Rattle.records.specs.declared.Record.{Record}
+use Rattle.log.specs.Image.{home}
+use Rattle.home.specs.Sound.{listOf}
+use Rattle.edits.specs.declared.Answer.{Answer}
+use Rattle.edits.specs.declared.Answer.the-variants.{Count, Refused}
+use Rattle.index.specs.Reads.{countImage}
+use Rattle.lines.specs.declared.Word.{Word}
+use Rattle.lines.specs.declared.Word.the-variants.{Put, Del, Set, Drop, Show}
+use Rattle.lines.specs.declared.Command.{Command}
+use Rattle.lines.specs.declared.Parsed.{Parsed}
+use Rattle.lines.specs.declared.Parsed.the-variants.{Good, Bad}
+use Rattle.lines.specs.declared.Reply.{Reply}
+use Rattle.lines.specs.declared.Reply.the-variants.{Fine, No}
+use Rattle.lines.specs.declared.Printed.{Printed}
+use Rattle.lines.specs.declared.Printed.the-variants.{Bytes, Short}
+use Rattle.lines.specs.Grammar.{parsed}
+use Rattle.lines.specs.Print.{listLines, okLine, noLine, badLine}
+use Rattle.lines.specs.Run.{replyOf, imageOf, leftOf}
+
+-- an answer to an edit
+unfoldable pub replyLine : Reply → List ℕ
+unfolding okLine noLine
+replyLine Fine = okLine
+replyLine (No n) = noLine n
+
+-- the answer to `list`, by what a count of the list answers
+unfoldable pub listing : Answer → ℕ → List Record → List ℕ
+unfolding listLines noLine
+listing (Count n) t rs = listLines t rs
+listing (Refused n) t rs = noLine n
+
+unfoldable pub isShow : Word → Bool
+isShow Put = false
+isShow Del = false
+isShow Set = false
+isShow Drop = false
+isShow Show = true
+
+-- what a command prints, of an image l and a workspace w
+unfoldable pub commandText : List ℕ → List ℕ → Command → List ℕ
+unfolding isShow listing replyLine
+commandText l w c = pick (isShow (c .word)) (listing (countImage l (c .tag)) (c .tag) (listOf (home l) (c .tag))) (replyLine (replyOf l w c))
+
+-- and leaves
+unfoldable pub commandImage : List ℕ → List ℕ → Command → List ℕ
+unfolding isShow
+commandImage l w c = pick (isShow (c .word)) l (imageOf l w c)
+
+unfoldable pub commandSpace : List ℕ → List ℕ → Command → List ℕ
+unfolding isShow
+commandSpace l w c = pick (isShow (c .word)) w (leftOf l w c)
+
+-- the same of a line
+unfoldable pub lineText : Parsed → List ℕ → List ℕ → List ℕ
+unfolding commandText badLine
+lineText (Good c) l w = commandText l w c
+lineText Bad l w = badLine
+
+unfoldable pub lineImage : Parsed → List ℕ → List ℕ → List ℕ
+unfolding commandImage
+lineImage (Good c) l w = commandImage l w c
+lineImage Bad l w = l
+
+unfoldable pub lineSpace : Parsed → List ℕ → List ℕ → List ℕ
+unfolding commandSpace
+lineSpace (Good c) l w = commandSpace l w c
+lineSpace Bad l w = w
+
+-- "An output too short is refused": shorter than the longest answer, 20 bytes and 25 for each of 989 records
+abbrev pub roomy : List ℕ → Bool
+roomy out = leb 24745 (length out)
+
+unfoldable pub printedOf : List ℕ → List ℕ → List ℕ → List ℕ → Printed
+unfolding lineText parsed
+printedOf l w line out = pick (roomy out) (Bytes (length (lineText (parsed line) l w))) Short
+
+unfoldable pub outOf : List ℕ → List ℕ → List ℕ → List ℕ → List ℕ
+unfolding lineText parsed
+outOf l w line out = pick (roomy out) (over out 0 (lineText (parsed line) l w)) out
+
+unfoldable pub imageAfter : List ℕ → List ℕ → List ℕ → List ℕ → List ℕ
+unfolding lineImage parsed
+imageAfter l w line out = pick (roomy out) (lineImage (parsed line) l w) l
+
+unfoldable pub spaceAfter : List ℕ → List ℕ → List ℕ → List ℕ → List ℕ
+unfolding lineSpace parsed
+spaceAfter l w line out = pick (roomy out) (lineSpace (parsed line) l w) w

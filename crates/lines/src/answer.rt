@@ -1,0 +1,86 @@
+// A line in, its whole answer out.
+use crate::Command;
+use crate::Parsed;
+use crate::Printed;
+use crate::Reply;
+use crate::Word;
+use crate::parse::parse;
+use crate::print::put_bad;
+use crate::print::put_list;
+use crate::print::put_no;
+use crate::print::put_ok;
+use crate::run::run;
+use edits::Answer;
+ghost use mathlib.Core.Path.{_≡_};
+ghost use Prim.Native.Nat.{_≤_};
+ghost use lib.ListN.{length};
+ghost use Rattle.wire.specs.Bytes.{over};
+ghost use Rattle.log.specs.Image.{home as homeOf};
+ghost use Rattle.home.specs.Sound.{listOf};
+ghost use Rattle.index.specs.Reads.{countImage};
+ghost use Rattle.lines.specs.Answer.{replyLine, listing, isShow, commandText, commandImage, commandSpace, printedOf, outOf, imageAfter, spaceAfter};
+
+fn is_list(word: Word) -> bool
+    ensures { λ r. ⌜ r ≡ isShow word ⌝ }
+{
+    match word {
+        Word::Put => false,
+        Word::Del => false,
+        Word::Set => false,
+        Word::Drop => false,
+        Word::Show => true,
+    }
+}
+
+// Prints what is replied to an edit.
+fn put_reply(out: &mut [u8], r: Reply) -> usize
+    requires { ⌜ 24745 ≤ length (now out) ⌝ }
+    ensures { λ n. ⌜ (now (out .exit) ≡ over (now (out .entry)) 0 (replyLine r)) × (n ≡ length (replyLine r)) ⌝ }
+{
+    match r {
+        Reply::Fine => put_ok(out),
+        Reply::No(n) => put_no(out, n),
+    }
+}
+
+// Prints a tag's list in an image, or its refusal.
+fn put_listing(image: &[u8], tag: u32, out: &mut [u8]) -> usize
+    requires { ⌜ 24745 ≤ length (now out) ⌝ }
+    ensures { λ n. ⌜ (now (out .exit) ≡ over (now (out .entry)) 0 (listing (countImage (now (image .entry)) tag) tag (listOf (homeOf (now (image .entry))) tag))) × (n ≡ length (listing (countImage (now (image .entry)) tag) tag (listOf (homeOf (now (image .entry))) tag))) ⌝ }
+{
+    match index::count_image(image, tag) {
+        Answer::Count(_) => {
+            let list = index::show_image(image, tag);
+            put_list(out, tag, list)
+        }
+        Answer::Refused(n) => put_no(out, n),
+    }
+}
+
+// Does what a command says, and prints its answer.
+fn answer_command(image: &mut [u8], space: &mut [u8], c: Command, out: &mut [u8]) -> usize
+    requires { ⌜ 24745 ≤ length (now out) ⌝ }
+    ensures { λ n. ⌜ (now (out .exit) ≡ over (now (out .entry)) 0 (commandText (now (image .entry)) (now (space .entry)) c)) × (n ≡ length (commandText (now (image .entry)) (now (space .entry)) c)) ⌝ }
+    ensures { λ _. ⌜ (now (image .exit) ≡ commandImage (now (image .entry)) (now (space .entry)) c) × (now (space .exit) ≡ commandSpace (now (image .entry)) (now (space .entry)) c) ⌝ }
+{
+    let word = c.word;
+    if is_list(word) {
+        return put_listing(image, c.tag, out);
+    }
+    let r = run(image, space, c);
+    put_reply(out, r)
+}
+
+// Answers a line. Nothing changes where the output is too short.
+pub fn answer(image: &mut [u8], space: &mut [u8], line: &[u8], out: &mut [u8]) -> Printed
+    ensures { λ r. ⌜ (r ≡ printedOf (now (image .entry)) (now (space .entry)) (now (line .entry)) (now (out .entry))) × (now (out .exit) ≡ outOf (now (image .entry)) (now (space .entry)) (now (line .entry)) (now (out .entry))) ⌝ }
+    ensures { λ _. ⌜ (now (image .exit) ≡ imageAfter (now (image .entry)) (now (space .entry)) (now (line .entry)) (now (out .entry))) × (now (space .exit) ≡ spaceAfter (now (image .entry)) (now (space .entry)) (now (line .entry)) (now (out .entry))) ⌝ }
+{
+    if out.len() < 24745 {
+        return Printed::Short;
+    }
+    match parse(line) {
+        Parsed::Good(c) => Printed::Bytes(answer_command(image, space, c, out)),
+        Parsed::Bad => Printed::Bytes(put_bad(out)),
+    }
+}

@@ -1,0 +1,65 @@
+// Edits made and committed.
+use crate::Command;
+use crate::Reply;
+use crate::Word;
+use edits::Answer;
+use index::Begun;
+use log::Outcome;
+use records::Record;
+ghost use mathlib.Core.Path.{_≡_};
+ghost use Rattle.log.specs.Calls.{commitPlan};
+ghost use Rattle.home.specs.Sound.{sound};
+ghost use Rattle.lines.specs.Run.{editAnswer, editSpace, outcomeReply, editReply, editImage, replyOf, imageOf, leftOf};
+
+// Edits a workspace as the word says.
+fn edit(space: &mut [u8], word: Word, tag: u32, call: Record) -> Answer
+    ensures { λ a. ⌜ a ≡ editAnswer word (now (space .entry)) tag call ⌝ }
+    ensures { λ _. ⌜ now (space .exit) ≡ editSpace word (now (space .entry)) tag call ⌝ }
+{
+    match word {
+        Word::Put => index::put(space, tag, call),
+        Word::Del => index::delete(space, tag, call),
+        Word::Set => index::set_minutes(space, tag, call),
+        Word::Drop => index::drop_tag(space, tag),
+        Word::Show => Answer::Count(0),
+    }
+}
+
+fn reply_of(o: Outcome) -> Reply
+    ensures { λ r. ⌜ r ≡ outcomeReply o ⌝ }
+{
+    match o {
+        Outcome::Done(_) => Reply::Fine,
+        Outcome::Cut(_) => Reply::No(0),
+        Outcome::Refused(n) => Reply::No(n),
+    }
+}
+
+// Commits an edited workspace, unless the edit was refused.
+fn keep(image: &mut [u8], space: &[u8], a: Answer) -> Reply
+    ensures { λ r. ⌜ r ≡ editReply a (commitPlan sound (now (image .entry)) (now (space .entry))) ⌝ }
+    ensures { λ _. ⌜ now (image .exit) ≡ editImage a (commitPlan sound (now (image .entry)) (now (space .entry))) (now (image .entry)) ⌝ }
+{
+    match a {
+        Answer::Count(_) => {
+            let o = index::commit(image, space, 4294967295);
+            reply_of(o)
+        }
+        Answer::Refused(n) => Reply::No(n),
+    }
+}
+
+// Makes the edit that a command names, and commits it.
+pub fn run(image: &mut [u8], space: &mut [u8], c: Command) -> Reply
+    ensures { λ r. ⌜ r ≡ replyOf (now (image .entry)) (now (space .entry)) c ⌝ }
+    ensures { λ _. ⌜ (now (image .exit) ≡ imageOf (now (image .entry)) (now (space .entry)) c) × (now (space .exit) ≡ leftOf (now (image .entry)) (now (space .entry)) c) ⌝ }
+{
+    match index::begin(image, space) {
+        Begun::Done => {
+            let word = c.word;
+            let a = edit(space, word, c.tag, c.call);
+            keep(image, space, a)
+        }
+        Begun::Unbegun(n) => Reply::No(n),
+    }
+}
