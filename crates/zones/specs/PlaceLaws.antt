@@ -28,8 +28,8 @@ use Rattle.home.specs.AreaLaws.{fit-le}
 use Rattle.home.specs.HomeLaws.{length-dictionary}
 use Rattle.home.specs.DictionaryLaws.{dictionary-rising}
 use Rattle.home.specs.Bytes.{Entry, entries, dictionary, area, encode, decode, cellAt, firstAt, manyAt, blockBytes}
-use Rattle.home.specs.Sound.{pagesOf, sound, Sound}
-use Rattle.home.specs.SoundLaws.{t-sound, sound-pages, sound-zones, encode-decode}
+use Rattle.home.specs.Sound.{pagesOf, sound}
+use Rattle.home.specs.SoundLaws.{encode-decode}
 use Rattle.home.specs.FoundLaws.{records-fit}
 use Rattle.zones.specs.Moves.{zoned, entered}
 use Rattle.zones.specs.StateLaws.{state, state-tags, state-ordered, state-written}
@@ -38,9 +38,9 @@ use Rattle.zones.specs.StepLaws.{firstOf, manyOf, home-placed}
 use Rattle.zones.specs.Room.{settled, above, endAfter, Stored, Ready, hasRoom, roomed}
 use Rattle.room.specs.Spans.{isSome}
 use Rattle.zones.specs.LooseLaws.{zone-at, length-loose, fit-lower, fit-above, blocks-append, loose-joined, Shifted, shift-fit}
-use Rattle.zones.specs.RoomLaws.{at-zone, take-here, take-next, drop-next, zone-here, end-next}
+use Rattle.zones.specs.RoomLaws.{some-map, failed, at-zone, take-here, take-next, drop-next, zone-here, end-next}
 use Rattle.zones.specs.CodeLaws.{open-small}
-use Rattle.zones.specs.SoundLaws.{valid-loose, sound-loose, sound-ready}
+use Rattle.zones.specs.SoundLaws.{sound-small, sound-valid, valid-loose, sound-loose, sound-ready}
 use Rattle.zones.specs.Place.{blockOf, firstWith, blockIn, placedIn, Placeable}
 
 -- ---- where the zones below a class end
@@ -250,16 +250,6 @@ record Places (R : ℕ) (h : List ℕ) (zs : List Zone) (b : Block) (c p f n : �
   pub fails : isSome (above R zs (suc c) (p + cells c)) ≡ false → settled R h (take (suc c) zs) (above R zs (suc c) (p + cells c)) ≡ settled R h [] (place cells (8 * R) 0 0 c b zs)
   pub puts : isSome (above R zs (suc c) (p + cells c)) ≡ true → Puts (settled R h (take (suc c) zs) (above R zs (suc c) (p + cells c))) (settled R h [] (place cells (8 * R) 0 0 c b zs)) (b .tag) (blockBytes c b) c p f n
 
-made-with : (w : List Zone → List Zone) (o : Option (List Zone)) → isSome o ≡ isSome (Option·map w o)
-unfolding isSome
-made-with w none = refl
-made-with w (some r) = refl
-
-failed-with : (R : ℕ) (h : List ℕ) (ls : List Zone) (w : List Zone → List Zone) (o : Option (List Zone)) → isSome o ≡ false → settled R h ls o ≡ settled R h [] (Option·map w o)
-unfolding isSome settled
-failed-with R h ls w none t = refl
-failed-with R h ls w (some r) t = never (sym t)
-
 places-at : (R : ℕ) → R ≤ 1024 → (h : List ℕ) (b : Block) (ls : List Zone) (z : Zone) (hs : List Zone) → Valid (8 * R) (ls ++ z ∷ hs) → Sits (length ls) b → Lacks (b .tag) (blocks (ls ++ z ∷ hs))
     → length (blocks (ls ++ z ∷ hs)) < 256 → Places R h (ls ++ z ∷ hs) b (length ls) (endOf cells (length ls) (endAfter 0 0 ls) z) (firstOf z) (manyOf z)
 places-at R small h b ls z hs v s l g =
@@ -274,8 +264,8 @@ places-at R small h b ls z hs v s l g =
     let room-is : settled R h (take (suc c) zs) (above R zs (suc c) (p + cells c)) ≡ settled R h (ls ++ z ∷ []) o = ap₂ (settled R h) (take-next ls z hs) above-is in
     let m : Holds (Shifted (8 * R) (suc c) (p + cells c) hs) o = shift-fit (8 * R) (suc c) p (p + cells c) hs (stood R small h b ls z hs v s l g) (omega arith) (omega (arith, cells-mono c)) in
     record {
-      answer = ap isSome above-is ∙ made-with (joined e₀ b ls z) o ∙ ap isSome (sym place-is);
-      fails = λ t. room-is ∙ failed-with R h (ls ++ z ∷ []) (joined e₀ b ls z) o (ap isSome (sym above-is) ∙ t) ∙ ap (settled R h []) (sym place-is);
+      answer = ap isSome above-is ∙ sym (some-map (joined e₀ b ls z) o) ∙ ap isSome (sym place-is);
+      fails = λ t. room-is ∙ failed R h [] (ls ++ z ∷ []) (joined e₀ b ls z) o (ap isSome (sym above-is) ∙ t) ∙ ap (settled R h []) (sym place-is);
       puts = λ t. subst (λ (x : List ℕ). Puts x (settled R h [] (place cells (8 * R) 0 0 c b zs)) (b .tag) (blockBytes c b) c p (firstOf z) (manyOf z)) (sym room-is)
           (subst (λ (x : List ℕ). Puts (settled R h (ls ++ z ∷ []) o) x (b .tag) (blockBytes c b) c p (firstOf z) (manyOf z)) (ap (settled R h []) (sym place-is))
           (put-in R small h b ls z hs v s l g o m place-is (ap isSome (sym above-is) ∙ t)));
@@ -298,11 +288,7 @@ zone-places R small h zs b c p f n v s l g u =
 -- ---- what the code knows at its places
 
 pub sound-stored : (h : List ℕ) → sound h ≡ true → Stored h
-sound-stored h t = let x : Sound h = t-sound h .says t in record { pages = omega (arith, x .high, sound-pages h x); bytes = sym (encode-decode h t); loose = sound-loose h t }
-
-sound-valid : (h : List ℕ) → sound h ≡ true → Valid (8 * pagesOf h) (decode h)
-sound-valid h t = let x : Sound h = t-sound h .says t in
-    subst (λ (R : ℕ). Valid (8 * R) (decode h)) (sym (sound-pages h x)) (subst (Valid (8 * x .pages)) (sym (sound-zones h x)) (x .valid))
+sound-stored h t = record { pages = sound-small h t; bytes = sym (encode-decode h t); loose = sound-loose h t }
 
 pub able-class : (h : List ℕ) (t c : ℕ) (bs : List ℕ) → Placeable h t bs → c ≡ classOf (length bs / 8) → c < 30
 able-class h t c bs a q = omega (arith, class-below (length bs / 8) (a .most))

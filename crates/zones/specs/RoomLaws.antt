@@ -66,10 +66,10 @@ end-next c e k (y ∷ ls) z q = end-next (suc c) (endOf cells c e y) k ls z (ome
 
 -- ---- answers and bytes
 
-some-map : (z : Zone) (o : Option (List Zone)) → isSome (Option·map (λ (r : List Zone). z ∷ r) o) ≡ isSome o
+pub some-map : (f : List Zone → List Zone) (o : Option (List Zone)) → isSome (Option·map f o) ≡ isSome o
 unfolding isSome
-some-map z none = refl
-some-map z (some zs) = refl
+some-map f none = refl
+some-map f (some zs) = refl
 
 settled-map : (R : ℕ) (h : List ℕ) (ls : List Zone) (z : Zone) (o : Option (List Zone)) → settled R h ls (Option·map (λ (r : List Zone). z ∷ r) o) ≡ settled R h (ls ++ z ∷ []) o
 unfolding settled
@@ -164,7 +164,7 @@ module _ (R : ℕ) (h : List ℕ) (e : ℕ) where
         let here : endAfter 0 0 (take c zs) ≡ endAfter 0 0 ls = ap (endAfter 0 0) (take-here ls empty hs) in
         record {
           ready = record { pages = r .pages; bytes = r .bytes; loose = r .loose; class = g; low = omega (arith, r .low, here, end-of empty); high = omega (arith, r .high, here, end-of empty, cells-mono c) };
-          answer = ap isSome now ∙ some-map empty o ∙ ap isSome (sym next);
+          answer = ap isSome now ∙ some-map (λ (r : List Zone). empty ∷ r) o ∙ ap isSome (sym next);
           bytes = ap₂ (settled R h) (take-here ls empty hs) now ∙ settled-map R h ls empty o ∙ sym (ap₂ (settled R h) (take-next ls empty hs) next);
         }
 
@@ -247,10 +247,10 @@ to-high : (e f k m : ℕ) (xs : List Block) → e ≤ f + k → k ≤ m → lift
 to-high e f k m [] g b = omega (arith, to-one e f k)
 to-high e f k m (y ∷ ys) g b = omega (arith, to-more e f (length ys) k)
 
-failed : (R : ℕ) (h : List ℕ) (ls ls' : List Zone) (z : Zone) (o : Option (List Zone)) → isSome o ≡ false → settled R h ls' o ≡ settled R h ls (Option·map (λ (r : List Zone). z ∷ r) o)
+pub failed : (R : ℕ) (h : List ℕ) (ls ls' : List Zone) (f : List Zone → List Zone) (o : Option (List Zone)) → isSome o ≡ false → settled R h ls' o ≡ settled R h ls (Option·map f o)
 unfolding isSome settled
-failed R h ls ls' z none t = refl
-failed R h ls ls' z (some zs) t = never (sym t)
+failed R h ls ls' f none t = refl
+failed R h ls ls' f (some zs) t = never (sym t)
 
 lifts : (R : ℕ) (h : List ℕ) (e : ℕ) (ls hs : List Zone) (z : Zone) → length ls < 30 → Ready R h (ls ++ z ∷ hs) (length ls) e → (manyAt h (length ls) ≡ 0 → ⊥) → firstAt h (length ls) < e
     → Lifts R h (ls ++ z ∷ hs) (length ls) e (firstAt h (length ls)) (manyAt h (length ls))
@@ -279,8 +279,8 @@ lifts R h e ls hs (from f x xs) g r m b =
     let s₀ : settled R h (take c zs) (above R zs c e) ≡ settled R h ls (Option·map (λ (y : List Zone). up ∷ y) o) = ap₂ (settled R h) (take-here ls z hs) now in
     let done : Lifts R h zs c e f n = record {
       ready = record { pages = r .pages; bytes = r .bytes; loose = r .loose; class = g; low = omega (arith, end-of R h e ls hs g z); high = omega (arith, end-of R h e ls hs g z) };
-      answer = ap isSome now ∙ some-map up o ∙ ap isSome (sym next);
-      fails = λ t. s₁ ∙ failed R h ls (ls ++ z ∷ []) up o (ap isSome (sym next) ∙ t) ∙ sym s₀;
+      answer = ap isSome now ∙ some-map (λ (r : List Zone). up ∷ r) o ∙ ap isSome (sym next);
+      fails = λ t. s₁ ∙ failed R h ls (ls ++ z ∷ []) (λ (r : List Zone). up ∷ r) o (ap isSome (sym next) ∙ t) ∙ sym s₀;
       moves = λ t. subst (λ (l : List ℕ). Moves R l (settled R h (take c zs) (above R zs c e)) c e f n) (sym s₁)
           (subst (λ (l : List ℕ). Moves R (settled R h (ls ++ z ∷ []) o) l c e f n) (sym s₀)
           (lifted-off R (r .pages) h e ls f x xs hs (r .loose) low o lo (shift-fit (8 * R) (suc c) (f + n * cells c) e' hs (stands .1) lo hi)
