@@ -1,7 +1,7 @@
 // Lines of text: commands read, answers printed.
 pub mod answer;
 pub mod parse;
-pub mod print;
+mod print;
 pub mod run;
 
 use records::Record;

@@ -127,7 +127,7 @@ encode-decode l b g =
     let e : 8 * (length l / 8) ≡ length l = omega arith in
     encode-records l 0 (length l / 8) b (omega arith) ∙ take-all (8 * (length l / 8)) l (omega arith)
 
--- records in a part of a run, and in a run over which others were written
+-- records in a part of a run
 pub records-part : (l : List ℕ) (at n m : ℕ) → 8 * n ≤ m → records (part l at m) 0 n ≡ records l at n
 records-part l at n m g = records-same l (part l at m) at 0 n (λ i h. ap (λ (k : ℕ). getD (part l at m) k 0) (omega arith) ∙ part-at l at m i (omega arith))
 
@@ -135,9 +135,6 @@ pub decode-part : (l : List ℕ) (at n : ℕ) → at + 8 * n ≤ length l → de
 decode-part l at n g =
     let e : length (part l at (8 * n)) / 8 ≡ n = omega (arith, length-part l at (8 * n) g) in
     rw e (records-part l at n (8 * n) (omega arith))
-
-pub records-over : (l : List ℕ) (at : ℕ) (bs : List ℕ) (n : ℕ) → at + length bs ≤ length l → 8 * n ≤ length bs → records (over l at bs) at n ≡ records bs 0 n
-records-over l at bs n g h = records-same bs (over l at bs) 0 at n (λ i q. over-in l at bs i (omega arith) (omega arith) ∙ ap (λ (k : ℕ). getD bs k 0) (omega arith))
 
 -- ---- a record put in
 
