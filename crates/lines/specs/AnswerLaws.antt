@@ -19,10 +19,8 @@ use Rattle.index.specs.GatesLaws.{image-open}
 use Rattle.index.specs.Reads.{counted, shown, countImage, showImage}
 use Rattle.index.specs.MergesLaws.{sound-listed, list-reads}
 use Rattle.lines.specs.declared.Command.{Command}
-use Rattle.lines.specs.declared.Parsed.the-variants.{Good, Bad}
 use Rattle.lines.specs.declared.Printed.the-variants.{Bytes, Short}
 use Rattle.lines.specs.Grammar.{parsed}
-use Rattle.lines.specs.Print.{badLine}
 use Rattle.lines.specs.Run.{replyOf, imageOf, leftOf}
 use Rattle.lines.specs.Answer.{replyLine, listing, isShow, commandText, commandImage, commandSpace, lineText, lineImage, lineSpace, printedOf, outOf, imageAfter, spaceAfter}
 
@@ -64,13 +62,8 @@ module _ (l w line out : List ℕ) where
   unfolding printedOf outOf imageAfter spaceAfter
   answer-short g = rw (lt-leb 24745 (length out) g) (refl, refl, refl, refl)
 
-  pub answer-good : (c : Command) (n : ℕ) (l₂ w₂ out₂ : List ℕ) → 24745 ≤ length out → parsed line ≡ Good c
-      → out₂ ≡ over out 0 (commandText l w c) → n ≡ length (commandText l w c) → l₂ ≡ commandImage l w c → w₂ ≡ commandSpace l w c
+  pub answer-roomy : (n : ℕ) (l₂ w₂ out₂ : List ℕ) → 24745 ≤ length out → out₂ ≡ over out 0 (lineText (parsed line) l w) → n ≡ length (lineText (parsed line) l w)
+      → l₂ ≡ lineImage (parsed line) l w → w₂ ≡ lineSpace (parsed line) l w
       → (Bytes n ≡ printedOf l w line out) × (out₂ ≡ outOf l w line out) × (l₂ ≡ imageAfter l w line out) × (w₂ ≡ spaceAfter l w line out)
-  unfolding printedOf outOf imageAfter spaceAfter lineText lineImage lineSpace
-  answer-good c n l₂ w₂ out₂ g e o k i s = rw (le-leb 24745 (length out) g, e) (ap Bytes k, o, i, s)
-
-  pub answer-bad : (n : ℕ) (out₂ : List ℕ) → 24745 ≤ length out → parsed line ≡ Bad → out₂ ≡ over out 0 badLine → n ≡ length badLine
-      → (Bytes n ≡ printedOf l w line out) × (out₂ ≡ outOf l w line out) × (l ≡ imageAfter l w line out) × (w ≡ spaceAfter l w line out)
-  unfolding printedOf outOf imageAfter spaceAfter lineText lineImage lineSpace
-  answer-bad n out₂ g e o k = rw (le-leb 24745 (length out) g, e) (ap Bytes k, o, refl, refl)
+  unfolding printedOf outOf imageAfter spaceAfter
+  answer-roomy n l₂ w₂ out₂ g o k i s = rw (le-leb 24745 (length out) g) (ap Bytes k, o, i, s)

@@ -21,49 +21,49 @@ use Rattle.lines.specs.Grammar.{onto, fields, wordOf, isDigit, digitsOnl
 
 -- ---- commas
 
--- how many bytes stand before the first comma
-unfoldable pub before : List ℕ → ℕ
-before [] = 0
-before (x ∷ l) = pick (eqb x 44) 0 (suc (before l))
+-- how many bytes stand before the first x
+unfoldable pub before : ℕ → List ℕ → ℕ
+before x [] = 0
+before x (y ∷ l) = pick (eqb y x) 0 (suc (before x l))
 
 -- one turn of the search
-pub before-here : (line : List ℕ) (i : ℕ) → i < length line → getD line i 0 ≡ 44 → before (drop i line) ≡ 0
+pub before-here : (x : ℕ) (line : List ℕ) (i : ℕ) → i < length line → getD line i 0 ≡ x → before x (drop i line) ≡ 0
 unfolding before
-before-here line i g e = rw (drop-cons line i 0 g, eq-eqb _ _ e)
+before-here x line i g e = rw (drop-cons line i 0 g, eq-eqb _ _ e)
 
-pub before-turn : (line : List ℕ) (i : ℕ) → i < length line → (getD line i 0 ≡ 44 → ⊥) → before (drop i line) ≡ suc (before (drop (i + 1) line))
+pub before-turn : (x : ℕ) (line : List ℕ) (i : ℕ) → i < length line → (getD line i 0 ≡ x → ⊥) → before x (drop i line) ≡ suc (before x (drop (i + 1) line))
 unfolding before
-before-turn line i g e = rw (add-one, drop-cons line i 0 g, ne-eqb _ _ e)
+before-turn x line i g e = rw (add-one, drop-cons line i 0 g, ne-eqb _ _ e)
 
-pub before-end : (line : List ℕ) (i : ℕ) → length line ≤ i → before (drop i line) ≡ 0
+pub before-end : (x : ℕ) (line : List ℕ) (i : ℕ) → length line ≤ i → before x (drop i line) ≡ 0
 unfolding before
-before-end line i g = rw (drop-of-length-le line {i = i} g)
+before-end x line i g = rw (drop-of-length-le line {i = i} g)
 
 -- the first field, up to a comma or the line's end
-first : (l : List ℕ) → before l < length l → fields l ≡ take (before l) l ∷ fields (drop (suc (before l)) l)
+first : (l : List ℕ) → before 44 l < length l → fields l ≡ take (before 44 l) l ∷ fields (drop (suc (before 44 l)) l)
 unfolding before fields onto
 first [] g = absurd (omega arith)
 first (x ∷ l) g =
     by-test (eqb x 44) (λ e. rw e)
-    (λ e. rw e (ap (onto x) (first l (let h : before (x ∷ l) ≡ suc (before l) = rw e in omega arith))))
+    (λ e. rw e (ap (onto x) (first l (let h : before 44 (x ∷ l) ≡ suc (before 44 l) = rw e in omega arith))))
 
-only : (l : List ℕ) → length l ≤ before l → fields l ≡ l ∷ []
+only : (l : List ℕ) → length l ≤ before 44 l → fields l ≡ l ∷ []
 unfolding before fields onto
 only [] g = refl
 only (x ∷ l) g =
-    by-test (eqb x 44) (λ e. let h : before (x ∷ l) ≡ 0 = rw e in absurd (omega arith))
-    (λ e. rw e (ap (onto x) (only l (let h : before (x ∷ l) ≡ suc (before l) = rw e in omega arith))))
+    by-test (eqb x 44) (λ e. let h : before 44 (x ∷ l) ≡ 0 = rw e in absurd (omega arith))
+    (λ e. rw e (ap (onto x) (only l (let h : before 44 (x ∷ l) ≡ suc (before 44 l) = rw e in omega arith))))
 
-pub cut : (line : List ℕ) (from r : ℕ) → r ≡ from + before (drop from line) → r < length line
+pub cut : (line : List ℕ) (from r : ℕ) → r ≡ from + before 44 (drop from line) → r < length line
     → fields (drop from line) ≡ part line from (r - from) ∷ fields (drop (r + 1) line)
 unfolding part
 cut line from r e g =
-    let b : before (drop from line) ≡ r - from = omega arith in
-    let k : from + suc (before (drop from line)) ≡ r + 1 = omega arith in
+    let b : before 44 (drop from line) ≡ r - from = omega arith in
+    let k : from + suc (before 44 (drop from line)) ≡ r + 1 = omega arith in
     first (drop from line) (rw length-drop (omega arith))
-    ∙ ap₂ (λ (n : ℕ) (l : List ℕ). take n (drop from line) ∷ fields l) b (drop-drop (suc (before (drop from line))) from line ∙ ap (λ (n : ℕ). drop n line) k)
+    ∙ ap₂ (λ (n : ℕ) (l : List ℕ). take n (drop from line) ∷ fields l) b (drop-drop (suc (before 44 (drop from line))) from line ∙ ap (λ (n : ℕ). drop n line) k)
 
-pub last : (line : List ℕ) (from r : ℕ) → from ≤ length line → r ≡ from + before (drop from line) → length line ≤ r
+pub last : (line : List ℕ) (from r : ℕ) → from ≤ length line → r ≡ from + before 44 (drop from line) → length line ≤ r
     → fields (drop from line) ≡ part line from (length line - from) ∷ []
 unfolding part
 last line from r h e g =
@@ -227,10 +227,10 @@ bad-count line g h = rw (le-leb (length line) 80 g) (sym (not-six (fields line) 
 abbrev pub Counted : List ℕ → ℕ → ℕ → Type 0
 Counted line n at = length (fields line) ≡ n + length (fields (drop at line))
 
-pub count-next : (line : List ℕ) (n from r : ℕ) → Counted line n from → r ≡ from + before (drop from line) → r < length line → Counted line (n + 1) (r + 1)
+pub count-next : (line : List ℕ) (n from r : ℕ) → Counted line n from → r ≡ from + before 44 (drop from line) → r < length line → Counted line (n + 1) (r + 1)
 count-next line n from r s e g = omega (arith, ap length (cut line from r e g))
 
-pub bad-few : (line : List ℕ) (n from r : ℕ) → length line ≤ 80 → Counted line n from → n < 5 → from ≤ length line → r ≡ from + before (drop from line) → length line ≤ r
+pub bad-few : (line : List ℕ) (n from r : ℕ) → length line ≤ 80 → Counted line n from → n < 5 → from ≤ length line → r ≡ from + before 44 (drop from line) → length line ≤ r
     → Bad ≡ parsed line
 bad-few line n from r g s k h e f = bad-count line g (λ z. omega (arith, ap length (last line from r h e f)))
 
@@ -238,8 +238,8 @@ pub bad-many : (line : List ℕ) (at : ℕ) → length line ≤ 80 → Counted l
 bad-many line at g s = bad-count line g (λ z. omega (arith, some-field (drop at line)))
 
 pub good : (line : List ℕ) (a b c d e f : ℕ) → length line ≤ 80 → e < length line → length line ≤ f
-    → a ≡ 0 + before (drop 0 line) → b ≡ a + 1 + before (drop (a + 1) line) → c ≡ b + 1 + before (drop (b + 1) line)
-    → d ≡ c + 1 + before (drop (c + 1) line) → e ≡ d + 1 + before (drop (d + 1) line) → f ≡ e + 1 + before (drop (e + 1) line)
+    → a ≡ 0 + before 44 (drop 0 line) → b ≡ a + 1 + before 44 (drop (a + 1) line) → c ≡ b + 1 + before 44 (drop (b + 1) line)
+    → d ≡ c + 1 + before 44 (drop (c + 1) line) → e ≡ d + 1 + before 44 (drop (d + 1) line) → f ≡ e + 1 + before 44 (drop (e + 1) line)
     → atCommas line a b c d e ≡ parsed line
 unfolding parsed commandOf atCommas
 good line a b c d e f g h k ea eb ec ed ee ef =

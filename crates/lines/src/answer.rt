@@ -18,7 +18,8 @@ ghost use Rattle.wire.specs.Bytes.{over};
 ghost use Rattle.log.specs.Image.{home as homeOf};
 ghost use Rattle.home.specs.Sound.{listOf};
 ghost use Rattle.index.specs.Reads.{countImage};
-ghost use Rattle.lines.specs.Answer.{replyLine, listing, isShow, commandText, commandImage, commandSpace, printedOf, outOf, imageAfter, spaceAfter};
+ghost use Rattle.lines.specs.Grammar.{parsed};
+ghost use Rattle.lines.specs.Answer.{replyLine, listing, isShow, commandText, commandImage, commandSpace, lineText, lineImage, lineSpace, printedOf, outOf, imageAfter, spaceAfter};
 
 fn is_list(word: Word) -> bool
     ensures { λ r. ⌜ r ≡ isShow word ⌝ }
@@ -35,7 +36,7 @@ fn is_list(word: Word) -> bool
 // Prints what is replied to an edit.
 fn put_reply(out: &mut [u8], r: Reply) -> usize
     requires { ⌜ 24745 ≤ length (now out) ⌝ }
-    ensures { λ n. ⌜ (now (out .exit) ≡ over (now (out .entry)) 0 (replyLine r)) × (n ≡ length (replyLine r)) ⌝ }
+    ensures { λ n. ⌜ (now (out .exit) ≡ over (now (out .entry)) 0 (replyLine r)) × (n ≡ length (replyLine r)) × (n ≤ 24745) ⌝ }
 {
     match r {
         Reply::Fine => put_ok(out),
@@ -46,7 +47,7 @@ fn put_reply(out: &mut [u8], r: Reply) -> usize
 // Prints a tag's list in an image, or its refusal.
 fn put_listing(image: &[u8], tag: u32, out: &mut [u8]) -> usize
     requires { ⌜ 24745 ≤ length (now out) ⌝ }
-    ensures { λ n. ⌜ (now (out .exit) ≡ over (now (out .entry)) 0 (listing (countImage (now (image .entry)) tag) tag (listOf (homeOf (now (image .entry))) tag))) × (n ≡ length (listing (countImage (now (image .entry)) tag) tag (listOf (homeOf (now (image .entry))) tag))) ⌝ }
+    ensures { λ n. ⌜ (now (out .exit) ≡ over (now (out .entry)) 0 (listing (countImage (now (image .entry)) tag) tag (listOf (homeOf (now (image .entry))) tag))) × (n ≡ length (listing (countImage (now (image .entry)) tag) tag (listOf (homeOf (now (image .entry))) tag))) × (n ≤ 24745) ⌝ }
 {
     match index::count_image(image, tag) {
         Answer::Count(_) => {
@@ -60,7 +61,7 @@ fn put_listing(image: &[u8], tag: u32, out: &mut [u8]) -> usize
 // Does what a command says, and prints its answer.
 fn answer_command(image: &mut [u8], space: &mut [u8], c: Command, out: &mut [u8]) -> usize
     requires { ⌜ 24745 ≤ length (now out) ⌝ }
-    ensures { λ n. ⌜ (now (out .exit) ≡ over (now (out .entry)) 0 (commandText (now (image .entry)) (now (space .entry)) c)) × (n ≡ length (commandText (now (image .entry)) (now (space .entry)) c)) ⌝ }
+    ensures { λ n. ⌜ (now (out .exit) ≡ over (now (out .entry)) 0 (commandText (now (image .entry)) (now (space .entry)) c)) × (n ≡ length (commandText (now (image .entry)) (now (space .entry)) c)) × (n ≤ 24745) ⌝ }
     ensures { λ _. ⌜ (now (image .exit) ≡ commandImage (now (image .entry)) (now (space .entry)) c) × (now (space .exit) ≡ commandSpace (now (image .entry)) (now (space .entry)) c) ⌝ }
 {
     let word = c.word;
@@ -71,6 +72,18 @@ fn answer_command(image: &mut [u8], space: &mut [u8], c: Command, out: &mut [u8]
     put_reply(out, r)
 }
 
+// Answers a line, where the output has room for the longest answer.
+pub fn answer_line(image: &mut [u8], space: &mut [u8], line: &[u8], out: &mut [u8]) -> usize
+    requires { ⌜ 24745 ≤ length (now out) ⌝ }
+    ensures { λ n. ⌜ (now (out .exit) ≡ over (now (out .entry)) 0 (lineText (parsed (now (line .entry))) (now (image .entry)) (now (space .entry)))) × (n ≡ length (lineText (parsed (now (line .entry))) (now (image .entry)) (now (space .entry)))) × (n ≤ 24745) ⌝ }
+    ensures { λ _. ⌜ (now (image .exit) ≡ lineImage (parsed (now (line .entry))) (now (image .entry)) (now (space .entry))) × (now (space .exit) ≡ lineSpace (parsed (now (line .entry))) (now (image .entry)) (now (space .entry))) ⌝ }
+{
+    match parse(line) {
+        Parsed::Good(c) => answer_command(image, space, c, out),
+        Parsed::Bad => put_bad(out),
+    }
+}
+
 // Answers a line. Nothing changes where the output is too short.
 pub fn answer(image: &mut [u8], space: &mut [u8], line: &[u8], out: &mut [u8]) -> Printed
     ensures { λ r. ⌜ (r ≡ printedOf (now (image .entry)) (now (space .entry)) (now (line .entry)) (now (out .entry))) × (now (out .exit) ≡ outOf (now (image .entry)) (now (space .entry)) (now (line .entry)) (now (out .entry))) ⌝ }
@@ -79,8 +92,5 @@ pub fn answer(image: &mut [u8], space: &mut [u8], line: &[u8], out: &mut [u8]) -
     if out.len() < 24745 {
         return Printed::Short;
     }
-    match parse(line) {
-        Parsed::Good(c) => Printed::Bytes(answer_command(image, space, c, out)),
-        Parsed::Bad => Printed::Bytes(put_bad(out)),
-    }
+    Printed::Bytes(answer_line(image, space, line, out))
 }

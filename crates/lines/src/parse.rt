@@ -22,14 +22,14 @@ const DROP: [u8; 4] = *b"drop";
 
 const LIST: [u8; 4] = *b"list";
 
-// The place of the first comma at or after an offset, or the line's length.
-fn comma(line: &[u8], from: usize) -> usize
+// The place of a byte's first instance at or after an offset, or the line's length.
+pub fn find(line: &[u8], from: usize, byte: u8) -> usize
     requires { ⌜ from ≤ length (now line) ⌝ }
-    ensures { λ r. ⌜ (r ≡ from + before (drop from (now (line .entry)))) × (r ≤ length (now (line .entry))) ⌝ }
+    ensures { λ r. ⌜ (r ≡ from + before byte (drop from (now (line .entry)))) × (r ≤ length (now (line .entry))) ⌝ }
 {
     let mut i = from;
     while i < line.len() {
-        if line[i] == 44 {
+        if line[i] == byte {
             return i;
         }
         i += 1;
@@ -173,27 +173,27 @@ pub fn parse(line: &[u8]) -> Parsed
     if 80 < n {
         return Parsed::Bad;
     }
-    let a = comma(line, 0);
+    let a = find(line, 0, b',');
     if n <= a {
         return Parsed::Bad;
     }
-    let b = comma(line, a + 1);
+    let b = find(line, a + 1, b',');
     if n <= b {
         return Parsed::Bad;
     }
-    let c = comma(line, b + 1);
+    let c = find(line, b + 1, b',');
     if n <= c {
         return Parsed::Bad;
     }
-    let d = comma(line, c + 1);
+    let d = find(line, c + 1, b',');
     if n <= d {
         return Parsed::Bad;
     }
-    let e = comma(line, d + 1);
+    let e = find(line, d + 1, b',');
     if n <= e {
         return Parsed::Bad;
     }
-    if comma(line, e + 1) < n {
+    if find(line, e + 1, b',') < n {
         return Parsed::Bad;
     }
     at_commas(line, a, b, c, d, e)

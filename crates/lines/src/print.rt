@@ -46,7 +46,7 @@ pub fn put_record(out: &mut [u8], at: usize, r: Record) -> usize
 // Prints that a command is done.
 pub fn put_ok(out: &mut [u8]) -> usize
     requires { ⌜ 3 ≤ length (now out) ⌝ }
-    ensures { λ r. ⌜ (now (out .exit) ≡ over (now (out .entry)) 0 okLine) × (r ≡ length okLine) ⌝ }
+    ensures { λ r. ⌜ (now (out .exit) ≡ over (now (out .entry)) 0 okLine) × (r ≡ length okLine) × (r ≤ 7) ⌝ }
 {
     wire::copy(out, 0, b"ok\n");
     3
@@ -55,7 +55,7 @@ pub fn put_ok(out: &mut [u8]) -> usize
 // Prints a refusal's number.
 pub fn put_no(out: &mut [u8], n: u8) -> usize
     requires { ⌜ 7 ≤ length (now out) ⌝ }
-    ensures { λ r. ⌜ (now (out .exit) ≡ over (now (out .entry)) 0 (noLine n)) × (r ≡ length (noLine n)) ⌝ }
+    ensures { λ r. ⌜ (now (out .exit) ≡ over (now (out .entry)) 0 (noLine n)) × (r ≡ length (noLine n)) × (r ≤ 7) ⌝ }
 {
     wire::copy(out, 0, b"no,");
     put_field(out, 3, n as u32, b'\n')
@@ -64,7 +64,7 @@ pub fn put_no(out: &mut [u8], n: u8) -> usize
 // Prints that a line is bad.
 pub fn put_bad(out: &mut [u8]) -> usize
     requires { ⌜ 4 ≤ length (now out) ⌝ }
-    ensures { λ r. ⌜ (now (out .exit) ≡ over (now (out .entry)) 0 badLine) × (r ≡ length badLine) ⌝ }
+    ensures { λ r. ⌜ (now (out .exit) ≡ over (now (out .entry)) 0 badLine) × (r ≡ length badLine) × (r ≤ 7) ⌝ }
 {
     wire::copy(out, 0, b"bad\n");
     4
@@ -83,7 +83,7 @@ fn put_head(out: &mut [u8], tag: u32, count: u32) -> usize
 // Prints a list's tag and count, and each of its records.
 pub fn put_list(out: &mut [u8], tag: u32, list: &[u8]) -> usize
     requires { ⌜ (length (now list) / 8 ≤ 989) × (24745 ≤ length (now out)) ⌝ }
-    ensures { λ r. ⌜ (now (out .exit) ≡ over (now (out .entry)) 0 (listLines tag (decode (now (list .entry))))) × (r ≡ length (listLines tag (decode (now (list .entry))))) ⌝ }
+    ensures { λ r. ⌜ (now (out .exit) ≡ over (now (out .entry)) 0 (listLines tag (decode (now (list .entry))))) × (r ≡ length (listLines tag (decode (now (list .entry))))) × (r ≤ 24745) ⌝ }
 {
     let n = list.len() / 8;
     let mut at = put_head(out, tag, n as u32);

@@ -1,4 +1,5 @@
 use mathlib.Core.Path.{sym, _∙_}
+use native.Mathlib.Omega.{arith}
 use Rattle.lines.specs.Answer.{listing}
 use Rattle.lines.specs.AnswerLaws.{counted-shows}
 use borrow.Author.Needs.{needs}
@@ -35,7 +36,7 @@ same-length-2 c = search needs
 
 returns-2 : tie.Need-returns-2
 unfolding listing
-returns-2 c = rw (sym (c .before .before .before .before .before .before .before .count-image .ensures) ∙ c .before .before .before .before .before .n .given .1) (c .before .before .put-no .ensures)
+returns-2 c = rw (sym (c .before .before .before .before .before .before .before .count-image .ensures) ∙ c .before .before .before .before .before .n .given .1) (c .before .before .put-no .ensures .0, c .before .before .put-no .ensures .1, omega (arith, c .before .before .put-no .ensures .2))
 
 pub put-listing-spec : {M : Type 1} → statement M
 put-listing-spec =

@@ -1,3 +1,4 @@
+use native.Mathlib.Omega.{arith}
 use Rattle.lines.specs.Answer.{replyLine}
 use borrow.Author.Needs.{needs}
 use Rattle.lines.proofs.answer.put_reply.Statement.{statement}
@@ -20,14 +21,14 @@ same-length c = search needs
 
 returns : tie.Need-returns
 unfolding replyLine
-returns c = rw (c .before .before .before .before .enum-told .given .1) (c .before .before .put-ok .ensures)
+returns c = rw (c .before .before .before .before .enum-told .given .1) (c .before .before .put-ok .ensures .0, c .before .before .put-ok .ensures .1, omega (arith, c .before .before .put-ok .ensures .2))
 
 same-length-2 : tie.Need-same-length-2
 same-length-2 c = search needs
 
 returns-2 : tie.Need-returns-2
 unfolding replyLine
-returns-2 c = rw (c .before .before .before .before .before .r .given .1) (c .before .before .put-no .ensures)
+returns-2 c = rw (c .before .before .before .before .before .r .given .1) (c .before .before .put-no .ensures .0, c .before .before .put-no .ensures .1, omega (arith, c .before .before .put-no .ensures .2))
 
 pub put-reply-spec : {M : Type 1} → statement M
 put-reply-spec =

@@ -47,7 +47,8 @@ same-length c = search needs
 returns : tie.Need-returns Inv-loop μ-loop
 returns c =
     let h = c .before .before .before .before .put-head .ensures in
-    listed-end _ _ _ _ _ _ _ _ (c .loop-test .left) (c .before .loop .inv) (h .0) (h .1)
+    let r = listed-end _ _ _ _ _ _ _ _ (c .loop-test .left) (c .before .loop .inv) (h .0) (h .1) in
+    (r .0, r .1, omega (arith, h .1, c .before .loop .inv .room, c .before .loop .inv .within, head-long (c .before .before .before .before .before .before .before .before .args .tag) (length (c .before .before .before .before .before .before .before .before .args .list .now) / 8) (omega arith) (omega arith)))
 
 pub put-list-spec : {M : Type 1} → statement M
 put-list-spec =

@@ -17,7 +17,9 @@ same-length : tie.Need-same-length
 same-length c = search needs
 
 returns : tie.Need-returns
-returns c = wrote-no _ _ _ _ _ (c .before .before .before .before .before .before .copy .ensures) (c .before .before .put-field .ensures)
+returns c =
+    let r = wrote-no _ _ _ _ _ (c .before .before .before .before .before .before .copy .ensures) (c .before .before .put-field .ensures) in
+    (r .0, r .1, omega (arith, c .before .before .put-field .ensures .1, field-three (c .before .before .before .before .before .before .before .before .before .before .args .n) 10 (omega arith)))
 
 pub put-no-spec : {M : Type 1} → statement M
 put-no-spec =

@@ -1,3 +1,4 @@
+use native.Mathlib.Omega.{arith}
 use mathlib.Core.Path.{refl}
 use Rattle.lines.specs.PrintLaws.{ok-line}
 use borrow.Author.Needs.{needs}
@@ -14,7 +15,7 @@ same-length : tie.Need-same-length
 same-length c = search needs
 
 returns : tie.Need-returns
-returns c = rw ok-line (c .before .before .copy .ensures, refl)
+returns c = rw ok-line (c .before .before .copy .ensures, refl, omega arith)
 
 pub put-ok-spec : {M : Type 1} → statement M
 put-ok-spec = tie.close (tie.spec slice-aggregate-copy copy-requires same-length returns)
