@@ -8,8 +8,7 @@ use Rattle.records.specs.declared.Record.{Record}
 use Rattle.records.specs.Records.{Fits, key, look, held, rank}
 use Rattle.home.specs.Layout.{change}
 use Rattle.home.specs.Edits.{Answer as Result, count, refused, Edited, put, delete, setMinutes, dropTag}
-use Rattle.home.specs.Bytes.{encode, decode, countAt}
-use Rattle.home.specs.Checks.{placeAt}
+use Rattle.home.specs.Bytes.{encode, decode, countAt, placeAt}
 use Rattle.home.specs.Sound.{sound, pagesOf, listOf}
 use Rattle.home.specs.declared.lookup.Slot.the-variants.{At}
 use Rattle.home.specs.Lookup.{slotOf}

@@ -25,7 +25,7 @@ use Rattle.home.specs.Layout.{change}
 use Rattle.home.specs.Edits.{settle, put, delete, setMinutes, dropTag}
 use Rattle.home.specs.EditsLaws.{length-amend, shorter, empty-unknown}
 use Rattle.home.specs.HomeLaws.{all-mem}
-use Rattle.home.specs.PassLaws.{tag-count}
+use Rattle.home.specs.EntriesLaws.{tag-count}
 use Rattle.home.specs.Bytes.{encode, decode}
 use Rattle.home.specs.Sound.{sound, pagesOf, listOf}
 use Rattle.home.specs.SoundLaws.{encode-decode}

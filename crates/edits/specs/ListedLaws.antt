@@ -12,8 +12,7 @@ use Rattle.wire.specs.BytesLaws.{part-of}
 use Rattle.home.specs.Capacities.{classOf}
 use Rattle.home.specs.CapacitiesLaws.{cells-most}
 use Rattle.home.specs.Zones.{Zone, blocks, hasTag, find}
-use Rattle.home.specs.Bytes.{decode, countAt}
-use Rattle.home.specs.Checks.{placeAt}
+use Rattle.home.specs.Bytes.{decode, countAt, placeAt}
 use Rattle.home.specs.declared.lookup.Slot.the-variants.{At}
 use Rattle.home.specs.Lookup.{slotOf}
 use Rattle.home.specs.LookupLaws.{entry-held}

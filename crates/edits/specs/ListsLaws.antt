@@ -15,7 +15,7 @@ use Rattle.records.specs.Records.{key, rising, look, held, rank, insert, remove
 use Rattle.records.specs.Order.{insert-at, remove-at, amend-at, rank-length, held-end}
 use Rattle.records.specs.Cells.{length-bytesOf}
 use Rattle.records.specs.Edits.{length-encode}
-use Rattle.home.specs.CheckTurns.{cells-is}
+use Rattle.home.specs.CapacitiesLaws.{cells-is}
 use Rattle.home.specs.Capacities.{capacity, cells}
 use Rattle.home.specs.Zones.{Block}
 use Rattle.home.specs.Layout.{Sits}

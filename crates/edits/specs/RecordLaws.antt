@@ -16,8 +16,7 @@ use Rattle.records.specs.Cells.{length-bytesOf}
 use Rattle.wire.specs.BytesLaws.{over-whole}
 use Rattle.room.specs.Spans.{isSome}
 use Rattle.home.specs.Capacities.{cells, capacity, classOf}
-use Rattle.home.specs.CapacitiesLaws.{class-holds}
-use Rattle.home.specs.CheckTurns.{cells-is}
+use Rattle.home.specs.CapacitiesLaws.{cells-is, class-holds}
 use Rattle.home.specs.Zones.{Block, takeOut}
 use Rattle.home.specs.Layout.{change}
 use Rattle.home.specs.ChangeLaws.{Listed as Proper}

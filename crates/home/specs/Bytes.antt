@@ -134,3 +134,15 @@ zonesFrom h c (suc n) = zoneAt h c ∷ zonesFrom h (suc c) n
 -- the layout that home's bytes tell
 unfoldable pub decode : List ℕ → List Zone
 decode h = zonesFrom h 0 30
+
+-- the dictionary's i-th entry
+abbrev pub tagAt : List ℕ → ℕ → ℕ
+tagAt h i = get32 h (128 + 6 * i)
+
+abbrev pub placeAt : List ℕ → ℕ → ℕ
+placeAt h i = get16 h (128 + 6 * i + 4)
+
+-- n entries from the i-th on
+unfoldable pub entriesAt : List ℕ → ℕ → ℕ → List Entry
+entriesAt h i zero = []
+entriesAt h i (suc n) = record { tag = tagAt h i; cell = placeAt h i } ∷ entriesAt h (suc i) n

@@ -2,12 +2,16 @@
 use mathlib.Core.Path.{_≡_, sym, ap, _∙_}
 use mathlib.Core.Logic.{_⊎_, inl, inr}
 use mathlib.Core.List.{List, [], _∷_, _++_}
-use Prim.Native.Nat.{ℕ, suc, _+_, _*_, _/_, _%_, _≤_, _<_}
+use Prim.Native.Nat.{ℕ, zero, suc, _+_, _*_, _/_, _%_, _≤_, _<_}
 use native.Mathlib.Omega.{arith}
 use lib.ListN.{length, take, drop, getD, replicate, length-replicate, getD-replicate, take-append-drop}
 use lib.Seq.{getD-drop, drop-drop, drop-at, take-at, drop-cons, ext-getD}
 use Rattle.wire.specs.Bytes.{part, over, get16, get32, bytes16, bytes32, Bytes}
 use Rattle.wire.specs.BytesLaws.{part-same, length-part, part-at, length-over, over-low, over-high, get16-over, get32-over}
+use Rattle.wire.specs.All.{All, none, more}
+use Rattle.records.specs.Records.{Fits, records}
+use Rattle.records.specs.Cells.{records-none, records-more}
+use Rattle.records.specs.Edits.{record-fits}
 
 -- the parts of n bytes from i on and of m from j on have no byte in common
 abbrev pub Clear : ℕ → ℕ → ℕ → ℕ → Type 0
@@ -61,6 +65,10 @@ get32-front v l b = get32-over (0 ∷ 0 ∷ 0 ∷ 0 ∷ []) 0 v (omega arith) b
 pub get32-small : (l : List ℕ) (at : ℕ) → Bytes l → get32 l at < 4294967296
 unfolding get32
 get32-small l at b = omega (arith, b at, b (at + 1), b (at + 2), b (at + 3))
+
+pub records-fit : (h : List ℕ) (at n : ℕ) → Bytes h → All Fits (records h at n)
+records-fit h at zero b = rw records-none none
+records-fit h at (suc n) b = rw (records-more h at n) (more (record-fits h at b) (records-fit h (at + 8) n b))
 
 -- read, then written
 digits16 : (a b : ℕ) → a < 256 → b < 256 → bytes16 (a * 256 + b) ≡ a ∷ b ∷ []

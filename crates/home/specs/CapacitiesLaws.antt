@@ -13,12 +13,21 @@ use Rattle.home.specs.Capacities.{capacities, capacity, cells, classFrom
 use Rattle.home.specs.Cases.{by-pick}
 use Rattle.home.specs.Table.{table-at}
 
+-- the list holds the capacities
+pub capacity-read : (c : ℕ) → c < 30 → getD capacities c 0 ≡ capacity c
+unfolding capacities capacity
+capacity-read c h = table-at capacity capacities refl c h
+
 -- the table holds the classes
 pub table-class : (n : ℕ) → n < 990 → getD table n 0 ≡ classOf n
 unfolding table classOf
 table-class n h = table-at classOf table refl n h
 
 -- ---- sizes
+
+pub cells-is : (c : ℕ) → cells c ≡ capacity c + 1
+unfolding cells
+cells-is c = omega arith
 
 never-falls : ℕ → List ℕ → Bool
 never-falls a [] = true

@@ -5,7 +5,6 @@ pub mod Valid
 pub mod Layout
 pub mod Bytes
 pub mod Sound
-pub mod Checks
 pub mod Edits
 pub mod Examples
 pub mod Cases
@@ -26,10 +25,7 @@ pub mod AreaLaws
 pub mod HomeLaws
 pub mod SoundLaws
 pub mod DictionaryLaws
-pub mod FoundLaws
-pub mod PassLaws
-pub mod ChecksLaws
+pub mod EntriesLaws
 pub mod LookupLaws
-pub mod CheckTurns
 pub mod Lookup
 pub mod LookupTurns

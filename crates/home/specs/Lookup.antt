@@ -7,7 +7,7 @@ use lib.ListN.{length}
 use Rattle.wire.specs.Bytes.{pick, get16}
 use Rattle.home.specs.declared.lookup.Slot.{Slot}
 use Rattle.home.specs.declared.lookup.Slot.the-variants.{At, Absent}
-use Rattle.home.specs.Checks.{tagAt}
+use Rattle.home.specs.Bytes.{tagAt}
 
 -- "up to 256 entries .., strictly rising by tag": a dictionary in which a tag can be found
 pub record Ordered (h : List ℕ) : Type 0 where

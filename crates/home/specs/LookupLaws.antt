@@ -14,16 +14,15 @@ use Rattle.home.specs.Zones.{Block, Zone, blocks, find}
 use Rattle.home.specs.Perm.{In, Pairs, after}
 use Rattle.home.specs.Valid.{Other}
 use Rattle.home.specs.Layout.{Sits, Valid}
-use Rattle.home.specs.Bytes.{Spot, spots, Entry, entryOf, dictionary, encode, cellAt, countAt}
+use Rattle.home.specs.Bytes.{Spot, spots, Entry, entryOf, dictionary, encode, cellAt, countAt, tagAt, placeAt, entriesAt}
 use Rattle.home.specs.Sound.{sound, Sound, listOf}
-use Rattle.home.specs.Checks.{tagAt, placeAt, entriesAt}
 use Rattle.home.specs.PermLaws.{psym, pulled, all-in, in-all, in-map, map-in, pin}
 use Rattle.home.specs.FindLaws.{pfind, find-here, find-none}
 use Rattle.home.specs.AreaLaws.{bytesOf, Good, spots-sit, spots-good}
 use Rattle.home.specs.HomeLaws.{ReadsAt, block-count, block-records, block-starts, fit, length-encode-home, encode-reads}
 use Rattle.home.specs.SoundLaws.{t-sound, listOf-encode}
 use Rattle.home.specs.DictionaryLaws.{Below, spots-blocks, dictionary-rising, dictionary-perm}
-use Rattle.home.specs.PassLaws.{tag-count, home-entries}
+use Rattle.home.specs.EntriesLaws.{tag-count, home-entries}
 
 -- ---- entries by their number
 

@@ -16,9 +16,8 @@ use Rattle.records.specs.Cells.{length-records}
 use Rattle.records.specs.Edits.{encode-records}
 use Rattle.home.specs.declared.lookup.Slot.the-variants.{At, Absent}
 use Rattle.home.specs.Cases.{by-pick}
-use Rattle.home.specs.Bytes.{cellAt, countAt}
+use Rattle.home.specs.Bytes.{cellAt, countAt, tagAt, placeAt}
 use Rattle.home.specs.Sound.{sound, listOf}
-use Rattle.home.specs.Checks.{tagAt, placeAt}
 use Rattle.home.specs.LookupLaws.{Held, entry-held, unknown-tag, entries-rise, entries-few}
 use Rattle.home.specs.Lookup.{Ordered, entered, rankAt, slotOf}
 

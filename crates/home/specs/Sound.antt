@@ -20,7 +20,7 @@ unfoldable pub sized : List ℕ → Bool
 sized h = leb 1 (pagesOf h) && (leb (pagesOf h) 1024 && eqb (length h) (64 * (26 + pagesOf h)))
 
 -- "Home is sound if all this holds": the layout read off the bytes is valid, and its bytes are these. The 16 conditions, and what asks for each
--- (Checks asks for them one by one in the bytes, and ChecksLaws says that this is the same):
+-- (the crate `sound` asks for them one by one in the bytes: Checks there, and ChecksLaws says that this is the same):
 --   1 the length is 64(26 + R), R from 1 to 1,024       sized
 --   2 the tag count is at most 256                      valid (few), and encode writes the count
 --   3 an empty zone has first cell 0                    encode (entries)

@@ -1,4 +1,3 @@
 // Home: the layout of blocks in zones, its bytes, soundness and lookup.
-pub mod check;
 pub mod classes;
 pub mod lookup;

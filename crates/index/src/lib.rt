@@ -35,7 +35,7 @@ fn image_gate(image: &[u8]) -> Gate
     match head {
         Head::Bad(r) => Gate::Shut(r),
         Head::Clear => {
-            if home::check::sound(log::home(image)) {
+            if sound::sound(log::home(image)) {
                 Gate::Open
             } else {
                 Gate::Shut(5)
@@ -48,10 +48,10 @@ fn image_gate(image: &[u8]) -> Gate
 fn space_gate(space: &[u8]) -> Gate
     ensures { λ r. ⌜ r ≡ spaceGate (now (space .entry)) ⌝ }
 {
-    if !home::check::sized(space) {
+    if !sound::sized(space) {
         return Gate::Shut(6);
     }
-    if home::check::sound(space) {
+    if sound::sound(space) {
         Gate::Open
     } else {
         Gate::Shut(7)
@@ -178,7 +178,7 @@ fn commit_open(image: &mut [u8], space: &[u8], n: usize) -> Outcome
     if !as_long(image, space) {
         return Outcome::Refused(6);
     }
-    if home::check::sound(space) {
+    if sound::sound(space) {
         log::commit(image, space, n)
     } else {
         Outcome::Refused(7)

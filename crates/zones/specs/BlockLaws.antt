@@ -14,13 +14,12 @@ use Rattle.home.specs.Perm.{Perm, In, Pairs, after}
 use Rattle.home.specs.PermLaws.{prefl, psym, pall, pin, all-in, in-map, map-in}
 use Rattle.home.specs.Layout.{Sits}
 use Rattle.home.specs.FindLaws.{by-tag, has-here, has-skip}
-use Rattle.home.specs.Bytes.{Spot, row, spots, Entry, entryOf, dictionary, entries, area, blockBytes, cellAt, countAt, encode, decode}
+use Rattle.home.specs.Bytes.{Spot, row, spots, Entry, entryOf, dictionary, entries, area, blockBytes, cellAt, countAt, tagAt, placeAt, entriesAt, encode, decode}
 use Rattle.home.specs.AreaLaws.{Good, spots-sit, spots-good}
 use Rattle.home.specs.HomeLaws.{ReadsAt, block-tag, block-count, block-starts}
 use Rattle.home.specs.DictionaryLaws.{Else, spots-blocks, dictionary-perm}
 use Rattle.home.specs.Sound.{sound, pagesOf}
 use Rattle.home.specs.SoundLaws.{encode-decode}
-use Rattle.home.specs.Checks.{tagAt, placeAt, entriesAt}
 use Rattle.home.specs.declared.lookup.Slot.the-variants.{At}
 use Rattle.home.specs.Lookup.{slotOf}
 use Rattle.home.specs.LookupLaws.{entry-in}

@@ -15,8 +15,7 @@ use Rattle.wire.specs.All.{All, none, more, all-map}
 use Rattle.home.specs.Perm.{Perm, pnil, pskip, pswap, ptrans, Pairs, single, after}
 use Rattle.home.specs.PermLaws.{prefl, psym, pall, ppairs}
 use Rattle.home.specs.Cases.{by-pick}
-use Rattle.home.specs.Bytes.{Entry, enter, sorted, entriesBytes, padded}
-use Rattle.home.specs.Checks.{tagAt, placeAt, entriesAt}
+use Rattle.home.specs.Bytes.{Entry, enter, sorted, entriesBytes, padded, tagAt, placeAt, entriesAt}
 use Rattle.home.specs.BytesLaws.{get16-front, get32-front, part-join}
 use Rattle.home.specs.HomeLaws.{get16-at, get32-at, length-entriesBytes}
 use Rattle.home.specs.DictionaryLaws.{Else, Below}

@@ -30,7 +30,7 @@ use Rattle.home.specs.DictionaryLaws.{dictionary-rising}
 use Rattle.home.specs.Bytes.{Entry, entries, dictionary, area, encode, decode, cellAt, firstAt, manyAt, blockBytes}
 use Rattle.home.specs.Sound.{pagesOf, sound}
 use Rattle.home.specs.SoundLaws.{encode-decode}
-use Rattle.home.specs.FoundLaws.{records-fit}
+use Rattle.home.specs.BytesLaws.{records-fit}
 use Rattle.zones.specs.Moves.{zoned, entered}
 use Rattle.zones.specs.StateLaws.{state, state-tags, state-ordered, state-written}
 use Rattle.zones.specs.HomeLaws.{Loose, length-zones, fine, encode-state}

@@ -9,8 +9,7 @@ use Rattle.wire.specs.Bytes.{part, over, get16, get32, bytes16, bytes32}
 use Rattle.wire.specs.BytesLaws.{length-part, length-over, length-bytes16}
 use Rattle.wire.specs.All.{All, more, all-map}
 use Rattle.home.specs.Capacities.{cells}
-use Rattle.home.specs.Bytes.{Entry, padded, entriesBytes, cellAt}
-use Rattle.home.specs.Checks.{entriesAt}
+use Rattle.home.specs.Bytes.{Entry, padded, entriesBytes, cellAt, entriesAt}
 use Rattle.home.specs.Perm.{Pairs}
 use Rattle.home.specs.DictionaryLaws.{Below}
 use Rattle.home.specs.HomeLaws.{length-padded}

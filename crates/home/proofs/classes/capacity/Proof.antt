@@ -1,8 +1,7 @@
 use mathlib.Core.Path.{_∙_}
 use native.Mathlib.Omega.{arith}
 use Rattle.home.specs.Capacities.{capacities}
-use Rattle.home.specs.CheckTurns.{capacity-read, cells-is}
-use Rattle.home.specs.CapacitiesLaws.{cells-most}
+use Rattle.home.specs.CapacitiesLaws.{capacity-read, cells-is, cells-most}
 use borrow.Author.Needs.{needs}
 use Rattle.home.proofs.classes.capacity.Statement.{statement}
 use Rattle.home.proofs.classes.capacity.Tie as tie

@@ -1,5 +1,5 @@
 use native.Mathlib.Omega.{arith}
-use Rattle.home.specs.CheckTurns.{cells-is}
+use Rattle.home.specs.CapacitiesLaws.{cells-is}
 use borrow.Author.Needs.{needs}
 use Rattle.home.proofs.classes.cells.Statement.{statement}
 use Rattle.home.proofs.classes.cells.Tie as tie

@@ -1,0 +1,88 @@
+-- The dictionary's entries, read back off home's bytes.
+use mathlib.Core.Path.{_≡_, refl, sym, ap, ap₂, _∙_, subst}
+use mathlib.Core.List.{List, [], _∷_, _++_, append-assoc}
+use Prim.Native.Nat.{ℕ, suc, _+_, _*_, _-_, _≤_, _<_}
+use native.Mathlib.Omega.{arith}
+use lib.ListN.{length, drop, replicate, length-append}
+use lib.Seq.{drop-drop, drop-at}
+use Rattle.wire.specs.Bytes.{get16, get32, bytes16, bytes32}
+use Rattle.wire.specs.All.{All, more}
+use Rattle.home.specs.Zones.{Zone, blocks}
+use Rattle.home.specs.Perm.{In}
+use Rattle.home.specs.Layout.{Sits, Fit, Valid}
+use Rattle.home.specs.Bytes.{Spot, spots, area, entries, Entry, entryOf, dictionary, entriesBytes, padded, encode, tagAt, placeAt, entriesAt}
+use Rattle.home.specs.PermLaws.{in-map, in-all, all-in, pin}
+use Rattle.home.specs.BytesLaws.{get16-front, get32-front}
+use Rattle.home.specs.AreaLaws.{Good, spots-sit, spots-good}
+use Rattle.home.specs.HomeLaws.{get16-at, get32-at, length-entries, length-dictionary, fit}
+use Rattle.home.specs.DictionaryLaws.{dictionary-perm}
+
+-- an entry that 6 bytes hold
+pub record Small (d : Entry) : Type 0 where
+  pub tag : d .tag < 4294967296
+  pub cell : d .cell < 65536
+
+-- ---- one entry, and the next
+
+module _ (h : List ℕ) (at : ℕ) (d : Entry) (ds : List Entry) (rest : List ℕ) (e : drop at h ≡ entriesBytes (d ∷ ds) ++ rest) where
+  pub entry-tag : d .tag < 4294967296 → get32 h at ≡ d .tag
+  unfolding entriesBytes bytes32 get32
+  entry-tag b = get32-at h (entriesBytes (d ∷ ds) ++ rest) at e ∙ get32-front (d .tag) [] b
+
+  pub entry-cell : d .cell < 65536 → get16 h (at + 4) ≡ d .cell
+  unfolding entriesBytes bytes32 get16
+  entry-cell b = get16-at h (entriesBytes (d ∷ ds) ++ rest) at 4 e ∙ get16-front (d .cell) [] b
+
+  pub entry-rest : drop 6 (drop at h) ≡ entriesBytes ds ++ rest
+  unfolding entriesBytes bytes32 bytes16
+  entry-rest = ap (drop 6) e
+
+-- ---- all of them
+
+entries-back : (h : List ℕ) (i : ℕ) (ds : List Entry) (rest : List ℕ) → drop (128 + 6 * i) h ≡ entriesBytes ds ++ rest → All Small ds → entriesAt h i (length ds) ≡ ds
+unfolding entriesAt
+entries-back h i [] rest e p = refl
+entries-back h i (d ∷ ds) rest e (more p ps) =
+    let at : ℕ = 128 + 6 * i in
+    let next : 128 + 6 * suc i ≡ at + 6 = omega arith in
+    let qt : tagAt h i ≡ d .tag = entry-tag h at d ds rest e (p .tag) in
+    let qc : placeAt h i ≡ d .cell = entry-cell h at d ds rest e (p .cell) in
+    ap₂ {A = Entry} {B = List Entry} _∷_ (λ j. record { tag = qt j; cell = qc j })
+    (entries-back h (suc i) ds rest (ap (λ (k : ℕ). drop k h) next ∙ sym (drop-drop 6 at h) ∙ entry-rest h at d ds rest e) ps)
+
+module _ (R : ℕ) (zs : List Zone) (v : Valid (8 * R) zs) (small : R ≤ 1024) where
+  abbrev home : List ℕ
+  home = encode R zs
+
+  pub entry-small : (d : Entry) → In d (dictionary zs) → Small d
+  entry-small d i =
+      let m = in-map entryOf d (spots 0 zs) (pin d (dictionary-perm zs) i) in
+      let s : Spot = m .0 in
+      let f : Fit (8 * R) 0 0 zs = fit R zs v in
+      let sit : Sits (s .class) (s .block) = all-in (λ (x : Spot). Sits (x .class) (x .block)) s (spots 0 zs) (spots-sit (8 * R) 0 0 zs f) (m .1) in
+      let in-area : Good (8 * R) s = all-in (Good (8 * R)) s (spots 0 zs) (spots-good (8 * R) 0 0 zs f) (m .1) in
+      subst Small (sym (m .2)) (record { tag = sit .tag; cell = omega (arith, in-area .inside) })
+
+  pub tag-count : get16 home 0 ≡ length (blocks zs)
+  unfolding encode bytes16 get16
+  tag-count = get16-front (length (blocks zs)) [] (omega (arith, v .few))
+
+  lead : List ℕ
+  lead = bytes16 (length (blocks zs)) ++ (entries zs ++ replicate 6 0)
+
+  home-split : home ≡ lead ++ (padded (dictionary zs) ++ area (8 * R) zs)
+  unfolding encode lead
+  home-split = simp append-assoc
+
+  length-lead : length lead ≡ 128
+  unfolding lead bytes16
+  length-lead = simp (length-append, length-entries) (omega (arith, v .classes))
+
+  pub home-dictionary : drop 128 home ≡ entriesBytes (dictionary zs) ++ (replicate (1536 - 6 * length (dictionary zs)) 0 ++ area (8 * R) zs)
+  unfolding padded
+  home-dictionary = ap (drop 128) home-split ∙ drop-at lead (padded (dictionary zs) ++ area (8 * R) zs) 128 length-lead
+      ∙ append-assoc (entriesBytes (dictionary zs)) (replicate (1536 - 6 * length (dictionary zs)) 0) (area (8 * R) zs)
+
+  pub home-entries : entriesAt home 0 (get16 home 0) ≡ dictionary zs
+  home-entries = ap (entriesAt home 0) (tag-count ∙ sym (length-dictionary zs))
+      ∙ entries-back home 0 (dictionary zs) (replicate (1536 - 6 * length (dictionary zs)) 0 ++ area (8 * R) zs) home-dictionary (in-all Small (dictionary zs) entry-small)

@@ -1,0 +1,66 @@
+-- Soundness as a program tests it: loops over the bytes of home. That these tests together are `sound` of home is in ChecksLaws.
+use mathlib.Core.Bool.{Bool, true, false, _&&_, _||_}
+use mathlib.Core.List.{List}
+use Prim.Native.Nat.{ℕ, zero, suc, _+_, _*_, _-_, _%_}
+use lib.Dec.{leb, ltb, eqb}
+use Rattle.wire.specs.Bytes.{pick, part, get16, get32, blank}
+use Rattle.records.specs.Records.{rising, records}
+use Rattle.home.specs.Capacities.{capacity, cells, classOf}
+use Rattle.home.specs.Bytes.{cellAt, countAt, firstAt, manyAt, tagAt, placeAt}
+use Rattle.home.specs.Sound.{pagesOf, sized}
+
+-- a block at cell p in zone c: conditions 11, 13, 7, 12 and 8
+unfoldable pub blockFine : List ℕ → ℕ → ℕ → Bool
+blockFine h c p =
+    let n : ℕ = countAt h p in
+    ltb 0 n
+    && (ltb n 990 && (eqb (classOf n) c && (eqb (get16 h (cellAt p + 6)) 0 && (rising (records h (cellAt p + 8) n) && blank (part h (cellAt p + 8 + 8 * n) (8 * (capacity c - n)))))))
+
+-- n blocks from cell p on
+unfoldable pub blocksFine : List ℕ → ℕ → ℕ → ℕ → Bool
+blocksFine h c p zero = true
+blocksFine h c p (suc n) = blockFine h c p && blocksFine h c (p + cells c) n
+
+-- zone c, where the lower zones end at e, in an area of so many cells: conditions 3, 9, 10 and 16
+unfoldable pub zoneFine : List ℕ → ℕ → ℕ → ℕ → Bool
+zoneFine h area c e =
+    pick (eqb (manyAt h c) 0) (eqb (firstAt h c) 0)
+    (leb e (firstAt h c)
+    && (ltb (firstAt h c) (e + cells c)
+    && (leb (firstAt h c + manyAt h c * cells c) area && (blank (part h (cellAt e) (8 * (firstAt h c - e))) && blocksFine h c (firstAt h c) (manyAt h c)))))
+
+-- where it ends
+unfoldable pub endAt : List ℕ → ℕ → ℕ → ℕ
+endAt h c e = pick (eqb (manyAt h c) 0) e (firstAt h c + manyAt h c * cells c)
+
+-- n zones from class c on, and what lies behind them
+unfoldable pub zonesFine : List ℕ → ℕ → ℕ → ℕ → ℕ → Bool
+zonesFine h area c e zero = leb e area && blank (part h (cellAt e) (8 * (area - e)))
+zonesFine h area c e (suc n) = zoneFine h area c e && zonesFine h area (suc c) (endAt h c e) n
+
+-- how many blocks they have
+unfoldable pub manyIn : List ℕ → ℕ → ℕ → ℕ
+manyIn h c zero = 0
+manyIn h c (suc n) = manyAt h c + manyIn h (suc c) n
+
+-- is p the first cell of a block of these zones
+unfoldable pub leads : List ℕ → ℕ → ℕ → ℕ → Bool
+leads h c zero p = false
+leads h c (suc n) p = (leb (firstAt h c) p && (ltb p (firstAt h c + manyAt h c * cells c) && eqb ((p - firstAt h c) % cells c) 0)) || leads h (suc c) n p
+
+-- n entries from the i-th on, of which no tag is below `low`: conditions 5 and 14
+unfoldable pub tagsFine : List ℕ → ℕ → ℕ → ℕ → Bool
+tagsFine h low i zero = true
+tagsFine h low i (suc n) =
+    leb low (tagAt h i) && (leads h 0 30 (placeAt h i) && (eqb (get32 h (cellAt (placeAt h i))) (tagAt h i) && tagsFine h (tagAt h i + 1) (suc i) n))
+
+-- all of it: conditions 1, 2, 4, the zones, 15, the dictionary and 6
+unfoldable pub checked : List ℕ → Bool
+checked h =
+    sized h
+    && (leb (get16 h 0) 256
+    && (blank (part h 122 6)
+    && (zonesFine h (8 * pagesOf h) 0 0 30
+    && (eqb (manyIn h 0 30) (get16 h 0)
+    && (tagsFine h 0 0 (get16 h 0)
+    && blank (part h (128 + 6 * get16 h 0) (1536 - 6 * get16 h 0)))))))

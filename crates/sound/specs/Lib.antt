@@ -1,0 +1,5 @@
+pub mod Checks
+pub mod FoundLaws
+pub mod PassLaws
+pub mod ChecksLaws
+pub mod CheckTurns

@@ -1,0 +1,245 @@
+// The test whether bytes are a sound home, in one pass over them.
+use home::classes::capacity;
+use home::classes::cells;
+use home::classes::class_of;
+use home::lookup::zone_count;
+use home::lookup::zone_first;
+ghost use mathlib.Core.Path.{_≡_};
+ghost use mathlib.Core.Bool.{true};
+ghost use Prim.Native.Nat.{_+_, _*_, _≤_, _<_};
+ghost use lib.ListN.{length};
+ghost use Rattle.wire.specs.Bytes.{part, blank};
+ghost use Rattle.records.specs.Records.{rising as ordered, records};
+ghost use Rattle.home.specs.Capacities.{cells as cellsOf};
+ghost use Rattle.home.specs.Bytes.{cellAt};
+ghost use Rattle.home.specs.Sound.{sized as sizedOf, sound as isSound};
+ghost use Rattle.sound.specs.Checks.{blockFine, blocksFine, zoneFine, endAt, zonesFine, manyIn, tagsFine};
+ghost use Rattle.sound.specs.CheckTurns.{leadsAt, entryFine};
+
+// Whether n bytes from an offset on are zero.
+fn zeros(home: &[u8], at: usize, n: usize) -> bool
+    requires { ⌜ at + n ≤ length (now home) ⌝ }
+    ensures { λ r. ⌜ r ≡ blank (part (now (home .entry)) at n) ⌝ }
+{
+    let end = at + n;
+    wire::all_zero(&home[at..end])
+}
+
+// Whether n records from an offset on are strictly rising.
+fn rising(home: &[u8], at: usize, n: usize) -> bool
+    requires { ⌜ at + 8 * n ≤ length (now home) ⌝ }
+    ensures { λ r. ⌜ r ≡ ordered (records (now (home .entry)) at n) ⌝ }
+{
+    let end = at + 8 * n;
+    records::rising(&home[at..end])
+}
+
+// A block at cell p in zone c.
+fn block_fine(home: &[u8], c: usize, p: usize) -> bool
+    requires { ⌜ (c < 30) × (cellAt p + 8 * cellsOf c ≤ length (now home)) ⌝ }
+    ensures { λ r. ⌜ r ≡ blockFine (now (home .entry)) c p ⌝ }
+{
+    let room = capacity(c);
+    let at = 1664 + 8 * p;
+    let n = wire::get16(home, at + 4);
+    if n == 0 {
+        return false;
+    }
+    if 990 <= n {
+        return false;
+    }
+    if class_of(n) != c {
+        return false;
+    }
+    if wire::get16(home, at + 6) != 0 {
+        return false;
+    }
+    if !rising(home, at + 8, n) {
+        return false;
+    }
+    zeros(home, at + 8 + 8 * n, 8 * (room - n))
+}
+
+// The n blocks of zone c from cell p on.
+fn blocks_fine(home: &[u8], c: usize, p: usize, n: usize) -> bool
+    requires { ⌜ (c < 30) × (cellAt (p + n * cellsOf c) ≤ length (now home)) ⌝ }
+    ensures { λ r. ⌜ r ≡ blocksFine (now (home .entry)) c p n ⌝ }
+{
+    let size = cells(c);
+    let mut at = p;
+    let mut left = n;
+    while 0 < left {
+        if !block_fine(home, c, at) {
+            return false;
+        }
+        at += size;
+        left -= 1;
+    }
+    true
+}
+
+// Zone c, where the lower zones end at cell e.
+fn zone_fine(home: &[u8], area: usize, c: usize, e: usize) -> bool
+    requires { ⌜ (c < 30) × (cellAt area ≤ length (now home)) ⌝ }
+    ensures { λ r. ⌜ r ≡ zoneFine (now (home .entry)) area c e ⌝ }
+{
+    let first = zone_first(home, c);
+    let many = zone_count(home, c);
+    let size = cells(c);
+    if many == 0 {
+        return first == 0;
+    }
+    if first < e {
+        return false;
+    }
+    if e + size <= first {
+        return false;
+    }
+    if area < first + many * size {
+        return false;
+    }
+    if !zeros(home, 1664 + 8 * e, 8 * (first - e)) {
+        return false;
+    }
+    blocks_fine(home, c, first, many)
+}
+
+// Where it ends.
+fn zone_end(home: &[u8], c: usize, e: usize) -> usize
+    requires { ⌜ (c < 30) × (1664 ≤ length (now home)) ⌝ }
+    ensures { λ r. ⌜ r ≡ endAt (now (home .entry)) c e ⌝ }
+{
+    let many = zone_count(home, c);
+    if many == 0 {
+        return e;
+    }
+    zone_first(home, c) + many * cells(c)
+}
+
+// All zones, and the cells behind them.
+fn zones_fine(home: &[u8], area: usize) -> bool
+    requires { ⌜ cellAt area ≤ length (now home) ⌝ }
+    ensures { λ r. ⌜ r ≡ zonesFine (now (home .entry)) area 0 0 30 ⌝ }
+{
+    let mut e = 0;
+    let mut c = 0;
+    while c < 30 {
+        if !zone_fine(home, area, c, e) {
+            return false;
+        }
+        e = zone_end(home, c, e);
+        c += 1;
+    }
+    zeros(home, 1664 + 8 * e, 8 * (area - e))
+}
+
+// How many blocks they have.
+fn blocks_in(home: &[u8]) -> usize
+    requires { ⌜ 1664 ≤ length (now home) ⌝ }
+    ensures { λ r. ⌜ r ≡ manyIn (now (home .entry)) 0 30 ⌝ }
+{
+    let mut n = 0;
+    let mut c = 0;
+    while c < 30 {
+        n += zone_count(home, c);
+        c += 1;
+    }
+    n
+}
+
+// Whether p is a block's first cell. The block there gives its class, so that one zone is looked at.
+fn leads_at(home: &[u8], area: usize, p: usize) -> bool
+    requires { ⌜ cellAt area ≤ length (now home) ⌝ }
+    ensures { λ r. ⌜ r ≡ leadsAt (now (home .entry)) area p ⌝ }
+{
+    if area <= p {
+        return false;
+    }
+    let n = wire::get16(home, 1664 + 8 * p + 4);
+    if 990 <= n {
+        return false;
+    }
+    let c = class_of(n);
+    let first = zone_first(home, c);
+    let many = zone_count(home, c);
+    let size = cells(c);
+    if p < first {
+        return false;
+    }
+    if first + many * size <= p {
+        return false;
+    }
+    (p - first) % size == 0
+}
+
+// The i-th entry: no tag below `low`, and a block with its tag.
+fn entry_fine(home: &[u8], area: usize, low: u64, i: usize) -> bool
+    requires { ⌜ (i < 256) × (cellAt area ≤ length (now home)) ⌝ }
+    ensures { λ r. ⌜ r ≡ entryFine (now (home .entry)) area low i ⌝ }
+{
+    let tag = wire::get32(home, 128 + 6 * i);
+    let p = wire::get16(home, 128 + 6 * i + 4);
+    if (tag as u64) < low {
+        return false;
+    }
+    if !leads_at(home, area, p) {
+        return false;
+    }
+    wire::get32(home, 1664 + 8 * p) == tag
+}
+
+// The dictionary's n entries.
+fn tags_fine(home: &[u8], area: usize, n: usize) -> bool
+    requires { ⌜ (n ≤ 256) × (cellAt area ≤ length (now home)) × (zonesFine (now home) area 0 0 30 ≡ true) ⌝ }
+    ensures { λ r. ⌜ r ≡ tagsFine (now (home .entry)) 0 0 n ⌝ }
+{
+    let mut low: u64 = 0;
+    let mut i = 0;
+    while i < n {
+        if !entry_fine(home, area, low, i) {
+            return false;
+        }
+        low = wire::get32(home, 128 + 6 * i) as u64 + 1;
+        i += 1;
+    }
+    true
+}
+
+// Whether the length is 64(26 + R), R from 1 to 1,024.
+pub fn sized(home: &[u8]) -> bool
+    ensures { λ r. ⌜ r ≡ sizedOf (now (home .entry)) ⌝ }
+{
+    let n = home.len();
+    if n < 1728 {
+        return false;
+    }
+    let pages = n / 64 - 26;
+    (pages <= 1024) & (n == 64 * (26 + pages))
+}
+
+// Whether bytes are a sound home.
+pub fn sound(home: &[u8]) -> bool
+    ensures { λ r. ⌜ r ≡ isSound (now (home .entry)) ⌝ }
+{
+    if !sized(home) {
+        return false;
+    }
+    let area = 8 * (home.len() / 64 - 26);
+    let n = wire::get16(home, 0);
+    if 256 < n {
+        return false;
+    }
+    if !zeros(home, 122, 6) {
+        return false;
+    }
+    if !zones_fine(home, area) {
+        return false;
+    }
+    if blocks_in(home) != n {
+        return false;
+    }
+    if !tags_fine(home, area, n) {
+        return false;
+    }
+    zeros(home, 128 + 6 * n, 1536 - 6 * n)
+}
