@@ -1,0 +1,46 @@
+use Prim.Native.Nat.{_-_, _≤_}
+use lib.ListN.{length}
+use borrow.Author.Needs.{needs}
+use Rattle.vectors.proofs.crc32.Statement.{statement}
+use Rattle.vectors.proofs.crc32.Tie as tie
+
+abbrev Inv-loop : tie.InvT-loop
+Inv-loop s c₀ i₀ c i = i ≤ length s
+
+abbrev μ-loop : tie.MeasureT-loop
+μ-loop s c₀ i₀ c i = length s - i
+
+loop-holds : tie.Need-loop-holds Inv-loop μ-loop
+loop-holds c = search needs
+
+shared-slice-read-one-byte : tie.Need-shared-slice-read-one-byte Inv-loop μ-loop
+shared-slice-read-one-byte c = search needs
+
+one-byte-requires : tie.Need-one-byte-requires Inv-loop μ-loop
+one-byte-requires c κs = search needs
+
+add-i : tie.Need-add-i Inv-loop μ-loop
+add-i c = search needs
+
+loop-less : tie.Need-loop-less Inv-loop μ-loop
+loop-less c = search needs
+
+loop-again : tie.Need-loop-again Inv-loop μ-loop
+loop-again c = search needs
+
+returns : tie.Need-returns Inv-loop μ-loop
+returns c = search needs
+
+pub crc32-spec : {M : Type 1} → statement M
+crc32-spec =
+    tie.close
+    (tie.spec
+    Inv-loop
+    μ-loop
+    loop-holds
+    shared-slice-read-one-byte
+    one-byte-requires
+    add-i
+    loop-less
+    loop-again
+    returns)
