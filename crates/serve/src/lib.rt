@@ -1,5 +1,9 @@
 // An index served: lines from standard input, their answers to standard output.
 use lines::Printed;
+ghost use mathlib.Core.List.{[]};
+ghost use lib.ListN.{take};
+ghost use Rattle.stream.specs.Stream.{state};
+ghost use Rattle.serve.specs.Served.{Leads, Leaves};
 
 // After a piece: the bytes held of a line still open, and whether to go on.
 struct Passed {
@@ -24,7 +28,9 @@ fn pass(
     held: usize,
     piece: &[u8],
     out: &mut [u8],
-) -> Passed {
+) -> Passed
+    ensures { λ r. ⌜ Leads (state (take held (now (kept .entry))) (now (image .entry)) (now (space .entry))) (state (take (r .held) (now (kept .exit))) (now (image .exit)) (now (space .exit))) ⌝ }
+{
     let n = piece.len();
     let mut from = 0;
     let mut holds = held;
@@ -46,7 +52,9 @@ fn pass(
 }
 
 // Answers the line that the input's end ends.
-fn end(image: &mut [u8], space: &mut [u8], kept: &[u8], held: usize, out: &mut [u8]) -> bool {
+fn end(image: &mut [u8], space: &mut [u8], kept: &[u8], held: usize, out: &mut [u8]) -> bool
+    ensures { λ _. ⌜ Leaves (state (take held (now (kept .entry))) (now (image .entry)) (now (space .entry))) (now (image .exit)) (now (space .exit)) ⌝ }
+{
     match stream::finish(image, space, kept, held, out) {
         Printed::Bytes(n) => write(out, n),
         Printed::Short => false,
@@ -61,7 +69,9 @@ fn answer_some(
     held: usize,
     buf: &mut [u8],
     out: &mut [u8],
-) -> Passed {
+) -> Passed
+    ensures { λ r. ⌜ Leads (state (take held (now (kept .entry))) (now (image .entry)) (now (space .entry))) (state (take (r .held) (now (kept .exit))) (now (image .exit)) (now (space .exit))) ⌝ }
+{
     let got = libc::read(0, buf);
     let n = io::count(got, buf);
     if n == 0 {
@@ -75,7 +85,9 @@ fn answer_some(
 
 // Answers standard input to its end. A proved loop has to end, so it counts its turns down, from a
 // number that no run uses up.
-fn answer_all(image: &mut [u8], space: &mut [u8], kept: &mut [u8], buf: &mut [u8], out: &mut [u8]) {
+fn answer_all(image: &mut [u8], space: &mut [u8], kept: &mut [u8], buf: &mut [u8], out: &mut [u8])
+    ensures { λ _. ⌜ Leaves (state [] (now (image .entry)) (now (space .entry))) (now (image .exit)) (now (space .exit)) ⌝ }
+{
     let mut held = 0;
     let mut turns = u64::MAX;
     while turns > 0 {
@@ -86,13 +98,12 @@ fn answer_all(image: &mut [u8], space: &mut [u8], kept: &mut [u8], buf: &mut [u8
     end(image, space, kept, held, out);
 }
 
-// Serves an empty index of 64 record pages and 90 log entries.
-pub fn calls() {
-    let mut image = [0u8; 11764];
-    let mut space = [0u8; 5760];
-    index::format(&mut image, 90, 64, 4294967295);
+// Serves the index on an image. Whatever reading and writing do, it leaves what some input's bytes leave.
+pub fn serve(image: &mut [u8], space: &mut [u8])
+    ensures { λ _. ⌜ Leaves (state [] (now (image .entry)) (now (space .entry))) (now (image .exit)) (now (space .exit)) ⌝ }
+{
     let mut kept = [0u8; 81];
     let mut buf = io::large_buffer();
     let mut out = io::large_buffer();
-    answer_all(&mut image, &mut space, &mut kept, &mut buf, &mut out);
+    answer_all(image, space, &mut kept, &mut buf, &mut out);
 }

@@ -117,7 +117,7 @@ module _ (image space out : List ℕ) (k line : List ℕ) (e : line ≡ k) where
 -- ---- the loop over a piece's lines
 
 -- a state is its three parts
-parts : (s : Open) (k l w : List ℕ) → k ≡ s .kept → l ≡ s .image → w ≡ s .space → state k l w ≡ s
+pub parts : (s : Open) (k l w : List ℕ) → k ≡ s .kept → l ≡ s .image → w ≡ s .space → state k l w ≡ s
 parts s k l w a b c = rw (a, b, c) refl
 
 abbrev Fields : ℕ → ℕ → ℕ → Fed

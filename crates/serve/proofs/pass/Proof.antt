@@ -1,21 +1,24 @@
 use mathlib.Core.Path.{_≡_, refl}
 use Prim.Native.Nat.{_-_, _≤_}
 use native.Mathlib.Omega.{arith}
-use lib.ListN.{length}
+use lib.ListN.{length, take}
+use Rattle.stream.specs.Stream.{state}
+use Rattle.serve.specs.Served.{Leads, leads-none, leads-then, leads-fed}
 use borrow.Author.Needs.{needs}
 use Rattle.serve.proofs.pass.Statement.{statement}
 use Rattle.serve.proofs.pass.Tie as tie
 
 abbrev Inv-loop : tie.InvT-loop
 Inv-loop image₀ space₀ kept₀ held piece out₀ n from₀ holds₀ written₀ image space kept out from holds written =
-    (from ≤ length piece) × (length image ≡ length image₀) × (length space ≡ length space₀) × (length kept ≡ length kept₀) × (length out ≡ length out₀)
+    Leads (state (take held kept₀) image₀ space₀) (state (take holds kept) image space)
+    × (from ≤ length piece) × (length image ≡ length image₀) × (length space ≡ length space₀) × (length kept ≡ length kept₀) × (length out ≡ length out₀)
 
 abbrev μ-loop : tie.MeasureT-loop
 μ-loop image₀ space₀ kept₀ held piece out₀ n from₀ holds₀ written₀ image space kept out from holds written =
     length piece - from
 
 loop-holds : tie.Need-loop-holds Inv-loop μ-loop
-loop-holds c = (omega arith, refl, refl, refl, refl)
+loop-holds c = (leads-none _, omega arith, refl, refl, refl, refl)
 
 sub-feed : tie.Need-sub-feed Inv-loop μ-loop
 sub-feed c = search needs
@@ -39,7 +42,7 @@ loop-less : tie.Need-loop-less Inv-loop μ-loop
 loop-less c = omega (arith, c .before .before .before .before .before .before .before .before .before .before .before .before .feed .ensures .0 .within)
 
 loop-again : tie.Need-loop-again Inv-loop μ-loop
-loop-again c = (omega (arith, c .before .before .before .before .before .before .before .before .before .before .before .before .feed .ensures .0 .within), omega arith, omega arith, omega arith, omega arith)
+loop-again c = (leads-then _ _ _ (c .before .before .before .before .before .before .before .before .before .before .before .before .before .before .before .before .before .before .before .loop .inv .0) (leads-fed _ _ _ _ _ _ _ _ (c .before .before .before .before .before .before .before .before .before .before .before .before .feed .ensures .0)), omega (arith, c .before .before .before .before .before .before .before .before .before .before .before .before .feed .ensures .0 .within), omega arith, omega arith, omega arith, omega arith)
 
 same-length : tie.Need-same-length Inv-loop μ-loop
 same-length c = search needs
@@ -54,7 +57,7 @@ same-length-4 : tie.Need-same-length-4 Inv-loop μ-loop
 same-length-4 c = search needs
 
 returns : tie.Need-returns Inv-loop μ-loop
-returns c = search needs
+returns c = c .before .loop .inv .0
 
 same-length-5 : tie.Need-same-length-5 Inv-loop μ-loop
 same-length-5 c = search needs
@@ -69,7 +72,7 @@ same-length-8 : tie.Need-same-length-8 Inv-loop μ-loop
 same-length-8 c = search needs
 
 returns-2 : tie.Need-returns-2 Inv-loop μ-loop
-returns-2 c = search needs
+returns-2 c = leads-then _ _ _ (c .before .before .before .before .before .before .before .before .before .before .before .before .before .before .before .before .before .before .loop .inv .0) (leads-fed _ _ _ _ _ _ _ _ (c .before .before .before .before .before .before .before .before .before .before .before .feed .ensures .0))
 
 pub pass-spec : {M : Type 1} → statement M
 pass-spec =
