@@ -24,8 +24,12 @@ pub stage-none : (n m : ℕ) (l : List ℕ) → Stage n m [] l n m l
 stage-none n m l = record { left = omega arith; made = omega arith; bytes = rw take-nil (sym (apply-none l)) }
 
 -- with no store left, none is made
-pub stage-stopped : (m : ℕ) (ss : List Store) (l : List ℕ) → Stage 0 m ss l 0 m l
-stage-stopped m ss l = record { left = omega arith; made = omega arith; bytes = sym (apply-none l) }
+pub stage-stopped : (n m : ℕ) (ss : List Store) (l : List ℕ) → n ≡ 0 → Stage n m ss l n m l
+stage-stopped n m ss l e = record { left = omega arith; made = omega arith; bytes = rw e (sym (apply-none l)) }
+
+-- so it does not matter which
+pub stage-empty : {n m n' m' : ℕ} {ss ts : List Store} {l l' : List ℕ} → n ≡ 0 → Stage n m ss l n' m' l' → Stage n m ts l n' m' l'
+stage-empty {n} {m} {ss} {ts} {l} e s = record { left = omega arith; made = omega arith; bytes = s .bytes ∙ ap (λ (j : ℕ). apply (take j ss) l) e ∙ sym (ap (λ (j : ℕ). apply (take j ts) l) e) }
 
 -- one stage after another
 pub stage-more : {n m n₁ m₁ n₂ m₂ : ℕ} {ss ts : List Store} {l l₁ l₂ : List ℕ}

@@ -6,10 +6,9 @@ ghost use mathlib.Core.List.{_∷_, [], _++_};
 ghost use Prim.Native.Nat.{_+_, _*_, _≤_, _<_, _^_};
 ghost use lib.ListN.{length, drop};
 ghost use Rattle.wire.specs.Bytes.{part, bytes16, equal};
-ghost use Rattle.wire.specs.All.{All};
 ghost use Rattle.log.specs.Store.{run};
 ghost use Rattle.log.specs.Stage.{Stage};
-ghost use Rattle.log.specs.Entry.{page, entryAt, entry, entries, rising as risingFrom, changes, logged, replay as replayed};
+ghost use Rattle.log.specs.Entry.{page, entryAt, entry, entries, rising as risingFrom, changes, logged, replay as replayed, Replayable, Loggable};
 ghost use Rattle.log.specs.Calls.{recoverStores, logStores};
 
 // The first k entries' page numbers are below limit, each above the one before.
@@ -55,7 +54,7 @@ fn replay_one(image: &mut [u8], j: usize, home: usize, m: Meter) -> Meter
 
 // Stores the first k entries' pages to home, in order.
 fn replay(image: &mut [u8], k: usize, home: usize, m: Meter) -> Meter
-    requires { ⌜ (entryAt k ≤ home) × All (λ e. home + 64 * e .page + 64 ≤ length (now image)) (entries (now image) 0 k) × (home ≤ length (now image)) × (m .left + m .made < 2 ^ 64) ⌝ }
+    requires { ⌜ Replayable (now image) home k × (m .left + m .made < 2 ^ 64) ⌝ }
     ensures { λ r. ⌜ Stage (m .left) (m .made) (replayed home (entries (now (image .entry)) 0 k)) (now (image .entry)) (r .left) (r .made) (now (image .exit)) ⌝ }
 {
     let mut v = m;
@@ -68,10 +67,15 @@ fn replay(image: &mut [u8], k: usize, home: usize, m: Meter) -> Meter
 }
 
 // Replays the log of k entries and clears the mark: all that recover does, and commit once its mark is stored.
+// With no store left it reads nothing: the log may be cut.
 pub(crate) fn replay_log(image: &mut [u8], k: usize, home: usize, m: Meter) -> Meter
-    requires { ⌜ (entryAt k ≤ home) × All (λ e. home + 64 * e .page + 64 ≤ length (now image)) (entries (now image) 0 k) × (home ≤ length (now image)) × (m .left + m .made < 2 ^ 64) ⌝ }
+    requires { ⌜ (0 < m .left → Replayable (now image) home k) × (m .left + m .made < 2 ^ 64) ⌝ }
     ensures { λ r. ⌜ Stage (m .left) (m .made) (recoverStores home (entries (now (image .entry)) 0 k)) (now (image .entry)) (r .left) (r .made) (now (image .exit)) ⌝ }
 {
+    let left = m.left;
+    if left == 0 {
+        return m;
+    }
     let v = replay(image, k, home, m);
     let mark = [0u8; 1];
     meter::write_at(image, 10, &mark, v)
@@ -147,8 +151,7 @@ pub(crate) fn write_log(
     k: usize,
     m: Meter,
 ) -> Meter
-    requires { ⌜ (home + 64 * pages ≤ length (now image)) × (64 * pages ≤ length (now space)) × (m .left + m .made < 2 ^ 64) ⌝ }
-    requires { ⌜ (k ≡ length (changes (drop home (now image)) (now space) pages)) × (entryAt k ≤ home) ⌝ }
+    requires { ⌜ Loggable (now image) home (now space) pages k × (m .left + m .made < 2 ^ 64) ⌝ }
     ensures { λ r. ⌜ Stage (m .left) (m .made) (logStores (changes (drop home (now (image .entry))) (now (space .entry)) pages)) (now (image .entry)) (r .left) (r .made) (now (image .exit)) ⌝ }
 {
     let v = log_pages(image, home, space, pages, m);

@@ -20,7 +20,7 @@ abbrev μ-loop : tie.MeasureT-loop
 
 loop-holds : tie.Need-loop-holds Inv-loop μ-loop
 unfolding replay
-loop-holds c = (omega arith, refl, rw sub-zero (c .before .pre .1), rw entries-none (stage-none _ _ _))
+loop-holds c = (omega arith, refl, rw sub-zero (c .before .pre .0 .1), rw entries-none (stage-none _ _ _))
 
 replay-one-requires : tie.Need-replay-one-requires Inv-loop μ-loop
 replay-one-requires c κs =

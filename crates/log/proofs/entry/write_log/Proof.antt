@@ -30,7 +30,7 @@ same-length c = search needs
 returns : tie.Need-returns
 unfolding logStores
 returns c =
-    let count = c .before .before .before .before .before .before .before .before .before .before .bytes16 .ensures ∙ ap bytes16 (c .before .before .before .before .before .before .before .before .before .before .before .before .before .before .before .before .before .pre .1 .0) in
+    let count = c .before .before .before .before .before .before .before .before .before .before .bytes16 .ensures ∙ ap bytes16 (c .before .before .before .before .before .before .before .before .before .before .before .before .before .before .before .before .before .pre .0 .2) in
     stage-more (c .before .before .before .before .before .before .before .before .before .before .before .before .before .log-pages .ensures) (stage-more (rw count at (c .before .before .before .before .before .before .before .write-at .ensures)) (c .before .before .write-at2 .ensures))
 
 pub write-log-spec : {M : Type 1} → statement M
