@@ -23,12 +23,11 @@ use types.Part.{agg, whole, sub, look-in, store-in}
 use sound.WpLaws.{FmC, fmOf, WpFn-mono}
 use denote.RattleType.{owns}
 use denote.Laws.{Is, shows}
-use denote.Plain.{uint-vals, uint-tells, uint-makes}
+use denote.Plain.{uint-vals, uint-tells}
 use denote.Builtin.{u8, usize}
 use denote.Ref.{RefT, MutRef, ptr-vals, mut-tells}
 use denote.Slice.{sliceVal, MutSlice, Room, finally, slice-vals, mut-slice-tells, ShrSlice, shr-slice-tells}
-use denote.Steps.{owned, peeks, heard, nothing}
-use denote.Struct.Laws as LL
+use denote.Steps.{peeks, heard, nothing}
 use denote.Triple.Entry.{onEntry}
 use denote.Triple.Spec.{Meets, tripleOf}
 use denote.Triple.Statement.{Contract, Triple}
@@ -42,9 +41,7 @@ use Rattle.log.specs.Stage.{Stage}
 use Rattle.log.specs.Entry.{changes, Loggable}
 use Rattle.log.specs.Calls.{logStores}
 use Rattle.log.specs.declared.meter.Meter.{Meter}
-use Rattle.log.proofs.meter.Meter as T
-use Rattle.log.proofs.meter.Meter.Laws as T′
-use Rattle.log.proofs.Lent.{R, low, ref, opened, shut}
+use Rattle.log.proofs.Lent.{R, low, ref, typed, number, opened, shut}
 use Rattle.log.proofs.entry.write_log as callee
 use Rattle.log.proofs.entry.write_log.Symbol as callee-def
 use Rattle.log.proofs.entry.write_log.Symbol.{name as #callee}
@@ -103,8 +100,8 @@ module _ {M : Type 1} (𝓤 : URA M) (H : Heap 𝓤) (A : Atoms 𝓤) (W : Given
   goes pre =
       qed W ((‵ (flft κ q) ⊛ ‵ (flft κ₁ q₁)) ∷ (‵ (MutSlice (named 0) κ u8 .own x (s ∷ [])) ⊛ ‵ (ShrSlice (named 1) κ₁ u8 .own y (s₁ ∷ []))) ∷ ‵ (R .own h (low h ∷ [])) ∷ []) ∵ says ! pre $
       split ! $ nothing ! $ move ! (2 ∷ 0 ∷ []) $ join ! $ move ! (1 ∷ 0 ∷ []) $ join ! $ frame ! $ split ! $
-      nothing ! $ move ! (3 ∷ 0 ∷ []) $ fjoin ! $ owned ! usize (Is usize) (uint-makes 𝓤 H A W w64) k _ (refl, k-fits) $ fjoin ! $ owned ! usize (Is usize) (uint-makes 𝓤 H A W w64) pages _ (refl, pages-fits) $ fjoin ! $
-      move ! (2 ∷ 0 ∷ []) $ fjoin ! $ owned ! usize (Is usize) (uint-makes 𝓤 H A W w64) home _ (refl, home-fits) $ fjoin ! $ move ! (1 ∷ 0 ∷ []) $ fjoin ! $ done !
+      nothing ! $ move ! (3 ∷ 0 ∷ []) $ fjoin ! $ number ! k k-fits $ fjoin ! $ number ! pages pages-fits $ fjoin ! $
+      move ! (2 ∷ 0 ∷ []) $ fjoin ! $ number ! home home-fits $ fjoin ! $ move ! (1 ∷ 0 ∷ []) $ fjoin ! $ done !
 
   exits : (r : Meter) (zs : List ℕ) → Did ys home us pages h r zs → length zs ≡ length ys
       → ent 𝓤 (⋆ 𝓤 H A (‵ (MutRef (named 2) κ₂ R .own (ref b₂ o₂ γ₂ r) (vptr b₂ o₂ ∷ [])) ∷ ‵ (flft κ₂ q₂) ∷ (‵ (flft κ q) ⊛ ‵ (flft κ₁ q₁) ⊛ ‵ ftrue) ∷ ‵ (finally u8 γ zs) ∷ [])) (Post vunit)
@@ -131,7 +128,7 @@ module _ {M : Type 1} (𝓤 : URA M) (H : Heap 𝓤) (A : Atoms 𝓤) (W : Given
         move ! (26 ∷ []) $ split ! $ move ! (1 ∷ []) $ split ! $ move ! (1 ∷ []) $ split ! $ move ! (4 ∷ 0 ∷ []) $
         opened ! tt h b₂ o₂ (λ is₀.
         -- [the meter's cell; what it owns; the open borrow; obs; auth; true; κ₁; κ; true; the workspace; the image; _10; …; _9; …; _8; …; _7; …; _6; …; _5; …; _4; …; _3; …; _2; …; _1; …; room for _0; …]
-        assigns ! (of-opd ! (load ! (from ! (hop ! (look ! 19 refl) (stop !))) (look ! 0 refl))) (from ! (stop !)) (init ! 17 refl (LL.lawful T.the-type T′.the-laws 𝓤 H A W .typed h _ is₀ .0)) $
+        assigns ! (of-opd ! (load ! (from ! (hop ! (look ! 19 refl) (stop !))) (look ! 0 refl))) (from ! (stop !)) (init ! 17 refl (typed 𝓤 H A W h _ is₀)) $
         assigns ! (addr ! (from ! (fld ! refl (hop ! (look-in ! 29 (sub ! 0 refl (whole !))) (stop !))))) (from ! (stop !)) (init ! 13 refl (tt, tt)) $
         assigns ! (agg ! (and-then ! (load ! (from ! (stop !)) (look ! 13 refl)) (and-then ! (load ! (from ! (fld ! refl (stop !))) (look-in ! 29 (sub ! 1 refl (whole !)))) (no-more !)))) (from ! (stop !)) (init ! 11 refl (tt, (tt, (record { fits = room .0 }, tt)))) $
         -- the call: two tokens, the slices and the meter's numbers go
@@ -144,8 +141,8 @@ module _ {M : Type 1} (𝓤 : URA M) (H : Heap 𝓤) (A : Atoms 𝓤) (W : Given
         split ! $ move ! (1 ∷ []) $ heard ! (Did ys home us pages h r (zs .0)) (λ e. fsplit ! $ fsplit ! $ move ! (1 ∷ []) $ feqL ! (λ l.
         -- [the last list; …; the tokens and the result; the meter's cell; the open borrow; obs; auth; true; true; _10; …]
         move ! (2 ∷ []) $ split ! $ move ! (1 ∷ []) $ peeks ! R (Is R) (shows 𝓤 H A R) r (w ∷ []) (λ is.
-        land ! (from ! (stop !)) (init ! 14 refl (LL.lawful T.the-type T′.the-laws 𝓤 H A W .typed r _ is .0)) $
-        assigns ! (of-opd ! (load ! (from ! (stop !)) (look ! 14 refl))) (from ! (hop ! (look ! 18 refl) (stop !))) (store-in ! 4 (whole !) (LL.lawful T.the-type T′.the-laws 𝓤 H A W .typed r _ is .0)) $
+        land ! (from ! (stop !)) (init ! 14 refl (typed 𝓤 H A W r _ is)) $
+        assigns ! (of-opd ! (load ! (from ! (stop !)) (look ! 14 refl))) (from ! (hop ! (look ! 18 refl) (stop !))) (store-in ! 4 (whole !) (typed 𝓤 H A W r _ is)) $
         assigns ! (of-opd ! (unit-lit !)) (from ! (stop !)) (init ! 30 refl (tt, tt)) $
         -- the meter is shut
         move ! (4 ∷ 0 ∷ 5 ∷ 6 ∷ 7 ∷ []) $ shut ! tt r w b₂ o₂ $

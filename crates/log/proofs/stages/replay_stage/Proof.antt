@@ -23,12 +23,11 @@ use types.Part.{agg, whole, sub, look-in, store-in}
 use sound.WpLaws.{FmC, fmOf, WpFn-mono}
 use denote.RattleType.{owns}
 use denote.Laws.{Is, shows}
-use denote.Plain.{uint-vals, uint-tells, uint-makes}
+use denote.Plain.{uint-vals, uint-tells}
 use denote.Builtin.{u8, usize}
 use denote.Ref.{RefT, MutRef, ptr-vals, mut-tells}
 use denote.Slice.{sliceVal, MutSlice, Room, finally, slice-vals, mut-slice-tells}
-use denote.Steps.{owned, peeks, heard, nothing}
-use denote.Struct.Laws as LL
+use denote.Steps.{peeks, heard, nothing}
 use denote.Triple.Entry.{onEntry}
 use denote.Triple.Spec.{Meets, tripleOf}
 use denote.Triple.Statement.{Contract, Triple}
@@ -42,9 +41,7 @@ use Rattle.log.specs.Stage.{Stage}
 use Rattle.log.specs.Entry.{entries, Replayable}
 use Rattle.log.specs.Calls.{recoverStores}
 use Rattle.log.specs.declared.meter.Meter.{Meter}
-use Rattle.log.proofs.meter.Meter as T
-use Rattle.log.proofs.meter.Meter.Laws as T′
-use Rattle.log.proofs.Lent.{R, low, ref, opened, shut}
+use Rattle.log.proofs.Lent.{R, low, ref, typed, number, opened, shut}
 use Rattle.log.proofs.entry.replay_log as callee
 use Rattle.log.proofs.entry.replay_log.Symbol as callee-def
 use Rattle.log.proofs.entry.replay_log.Symbol.{name as #callee}
@@ -95,8 +92,8 @@ module _ {M : Type 1} (𝓤 : URA M) (H : Heap 𝓤) (A : Atoms 𝓤) (W : Given
   goes : Asks ys k home h → ent 𝓤 (⋆ 𝓤 H A (‵ (flft κ q) ∷ ‵ (MutSlice (named 0) κ u8 .own x (s ∷ [])) ∷ ‵ (R .own h (low h ∷ [])) ∷ [])) (Callee 𝓤 H A at-mem run .pre to-callee)
   goes pre =
       qed W (‵ (flft κ q) ∷ ‵ (MutSlice (named 0) κ u8 .own x (s ∷ [])) ∷ ‵ (R .own h (low h ∷ [])) ∷ []) ∵ says ! pre $ nothing ! $ move ! (1 ∷ 0 ∷ []) $ join ! $ frame ! $
-      nothing ! $ move ! (2 ∷ 0 ∷ []) $ fjoin ! $ owned ! usize (Is usize) (uint-makes 𝓤 H A W w64) home _ (refl, home-fits) $ fjoin ! $
-      owned ! usize (Is usize) (uint-makes 𝓤 H A W w64) k _ (refl, k-fits) $ fjoin ! $ move ! (1 ∷ 0 ∷ []) $ fjoin ! $ done !
+      nothing ! $ move ! (2 ∷ 0 ∷ []) $ fjoin ! $ number ! home home-fits $ fjoin ! $
+      number ! k k-fits $ fjoin ! $ move ! (1 ∷ 0 ∷ []) $ fjoin ! $ done !
 
   exits : (r : Meter) (zs : List ℕ) → Did ys k home h r zs → length zs ≡ length ys
       → ent 𝓤 (⋆ 𝓤 H A (‵ (MutRef (named 1) κ′ R .own (ref b′ o′ γ′ r) (vptr b′ o′ ∷ [])) ∷ ‵ (flft κ′ q′) ∷ (‵ (flft κ q) ⊛ ‵ ftrue) ∷ ‵ (finally u8 γ zs) ∷ [])) (Post vunit)
@@ -119,7 +116,7 @@ module _ {M : Type 1} (𝓤 : URA M) (H : Heap 𝓤) (A : Atoms 𝓤) (W : Given
         move ! (19 ∷ []) $ fsplit ! $ move ! (1 ∷ []) $ fsplit ! $ drop ! $ fsplit ! $ drop ! $ fsplit ! $ move ! (21 ∷ []) $ split ! $ move ! (1 ∷ []) $ split ! $ move ! (3 ∷ 0 ∷ []) $
         opened ! tt h b′ o′ (λ is₀.
         -- [the meter's cell; what it owns; the open borrow; obs; auth; true; κ; true; the slice; _8; …; _7; …; _6; …; _5; …; _4; …; _3; …; _2; …; _1; …; room for _0; …]
-        assigns ! (of-opd ! (load ! (from ! (hop ! (look ! 17 refl) (stop !))) (look ! 0 refl))) (from ! (stop !)) (init ! 15 refl (LL.lawful T.the-type T′.the-laws 𝓤 H A W .typed h _ is₀ .0)) $
+        assigns ! (of-opd ! (load ! (from ! (hop ! (look ! 17 refl) (stop !))) (look ! 0 refl))) (from ! (stop !)) (init ! 15 refl (typed 𝓤 H A W h _ is₀)) $
         assigns ! (addr ! (from ! (fld ! refl (hop ! (look-in ! 23 (sub ! 0 refl (whole !))) (stop !))))) (from ! (stop !)) (init ! 11 refl (tt, tt)) $
         assigns ! (agg ! (and-then ! (load ! (from ! (stop !)) (look ! 11 refl)) (and-then ! (load ! (from ! (fld ! refl (stop !))) (look-in ! 23 (sub ! 1 refl (whole !)))) (no-more !)))) (from ! (stop !)) (init ! 9 refl (tt, (tt, (record { fits = room .0 }, tt)))) $
         -- the call: κ's token, the slice and the meter's numbers go
@@ -130,8 +127,8 @@ module _ {M : Type 1} (𝓤 : URA M) (H : Heap 𝓤) (A : Atoms 𝓤) (W : Given
         split ! $ move ! (1 ∷ []) $ heard ! (Did ys k home h r (zs .0)) (λ e. fsplit ! $ fsplit ! $ move ! (1 ∷ []) $ feqL ! (λ l.
         -- [the last list; …; the token and the result; the meter's cell; the open borrow; obs; auth; true; true; _8; …]
         move ! (2 ∷ []) $ split ! $ move ! (1 ∷ []) $ peeks ! R (Is R) (shows 𝓤 H A R) r (w ∷ []) (λ is.
-        land ! (from ! (stop !)) (init ! 14 refl (LL.lawful T.the-type T′.the-laws 𝓤 H A W .typed r _ is .0)) $
-        assigns ! (of-opd ! (load ! (from ! (stop !)) (look ! 14 refl))) (from ! (hop ! (look ! 18 refl) (stop !))) (store-in ! 4 (whole !) (LL.lawful T.the-type T′.the-laws 𝓤 H A W .typed r _ is .0)) $
+        land ! (from ! (stop !)) (init ! 14 refl (typed 𝓤 H A W r _ is)) $
+        assigns ! (of-opd ! (load ! (from ! (stop !)) (look ! 14 refl))) (from ! (hop ! (look ! 18 refl) (stop !))) (store-in ! 4 (whole !) (typed 𝓤 H A W r _ is)) $
         assigns ! (of-opd ! (unit-lit !)) (from ! (stop !)) (init ! 26 refl (tt, tt)) $
         -- the meter is shut
         move ! (4 ∷ 0 ∷ 5 ∷ 6 ∷ 7 ∷ []) $ shut ! tt r w b′ o′ $
