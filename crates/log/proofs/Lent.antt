@@ -7,7 +7,8 @@
 --     back       and has both back, at the numbers and the bytes that the stage left
 -- Assumes `Given`.
 use mathlib.Core.Path.{_≡_, refl, sym, ap, subst}
-use Prim.Native.Nat.{ℕ, _<_, _^_}
+use Prim.Native.Nat.{ℕ, _+_, _-_, _<_, _≤_, _^_}
+use native.Mathlib.Omega.{arith}
 use mathlib.Core.List.{List, [], _∷_}
 use lib.ListN.{length}
 use lib.Dec.{T as Holds}
@@ -50,6 +51,26 @@ low h = T′.lowered h
 abbrev pub ref : ℕ → ℕ → GName → Meter → RefT Meter
 ref b o γ h = record { ptr = (b, o); name = γ; now = h }
 
+-- the meter once c stores were made
+abbrev pub charged : Meter → ℕ → Meter
+charged h c = record { left = h .left - c; made = h .made + c }
+
+-- its numbers fit, and two numbers that do are a meter
+pub left-fits : (h : Meter) → Is R h (low h ∷ []) → h .left < 2 ^ 64
+left-fits h is = LL.owed T.the-type T′.the-laws h _ is .0 .1
+
+pub made-fits : (h : Meter) → Is R h (low h ∷ []) → h .made < 2 ^ 64
+made-fits h is = LL.owed T.the-type T′.the-laws h _ is .1 .0 .1
+
+pub a-meter : (h : Meter) → h .left < 2 ^ 64 → h .made < 2 ^ 64 → Is R h (low h ∷ [])
+a-meter h f g = LL.owes T.the-type T′.the-laws h ((refl, f), ((refl, g), tt))
+
+pub less-left : (h : Meter) (c : ℕ) → Is R h (low h ∷ []) → h .left - c < 2 ^ 64
+less-left h c is = let f = left-fits h is in omega (arith, f)
+
+pub more-made : (h : Meter) (c : ℕ) → c ≤ h .left → h .left + h .made < 2 ^ 64 → h .made + c < 2 ^ 64
+more-made h c g f = omega (arith, g, f)
+
 -- what the image owns, n bytes at (b, o), of which the lists are the bytes
 abbrev pub owned-image : Lft → ℕ → ℕ → ℕ → GName → List ℕ → Fml
 owned-image κ b o n γ ys = MutSlice erased κ u8 .own (record { ptr = (b, o); name = γ; now = ys }) (sliceVal (b, o) n ∷ [])
@@ -85,19 +106,19 @@ module _ {M : Type 1} {𝓤 : URA M} {H : Heap 𝓤} {A : Atoms 𝓤} {K : Type 
   numbers t h is = owned t R (Is R) (LL.makes T.the-type T′.the-plain 𝓤 H A) h (low h ∷ []) is
 
   pub opened : K → Soaks G → {κ : Lft} {q : Share} {γ : GName} (h : Meter) (b o : ℕ)
-      → (Is R h (low h ∷ []) → Seq K W (‵ (fat fullShare T′.mir b o (low h)) ∷ ‵ (R .own h (low h ∷ [])) ∷ ‵ (fobor κ q (Body (mem R) b o γ)) ∷ ‵ (fobs γ (R .coded .code h)) ∷ ‵ (fauth γ (R .coded .code h)) ∷ Γ) G)
+      → (Is R h (low h ∷ []) → Seq K W (‵ (fat fullShare T′.mir b o (low h)) ∷ ‵ (fobor κ q (Body (mem R) b o γ)) ∷ ‵ (fobs γ (R .coded .code h)) ∷ ‵ (fauth γ (R .coded .code h)) ∷ Γ) G)
       → Seq K W (‵ (MutRef erased κ R .own (ref b o γ h) (vptr b o ∷ [])) ∷ ‵ (flft κ q) ∷ Γ) G
   opened t z h b o k =
       fsplit3 t $ drop t $ opens t z R {h = h} b o (λ vs.
       spelt t R (Is R) (shows 𝓤 H A R) (LL.vals T.the-type T′.the-laws) (LL.tells T.the-type T′.the-laws) fullShare h vs b o $
       use1 W (‵ (fat fullShare T′.mir b o (low h))) (W .laws .raw-at fullShare T′.mir b o (low h)) $
-      move t (1 ∷ []) $ peeks t R (Is R) (shows 𝓤 H A R) h (low h ∷ []) (λ is. move t (1 ∷ 0 ∷ []) $ k is))
+      move t (1 ∷ []) $ peeks t R (Is R) (shows 𝓤 H A R) h (low h ∷ []) (λ is. drop t $ k is))
 
-  pub shut : K → Soaks G → {κ : Lft} {q : Share} {γ : GName} {u v : Gv} (r : Meter) (w : Val) (b o : ℕ)
+  pub shut : K → Soaks G → {κ : Lft} {q : Share} {γ : GName} {u v : Gv} (r : Meter) → Is R r (low r ∷ []) → (b o : ℕ)
       → Step K W (‵ (MutRef erased κ R .own (ref b o γ r) (vptr b o ∷ [])) ∷ ‵ (flft κ q) ∷ Γ) G
-      (‵ (fat fullShare T′.mir b o w) ∷ ‵ (R .own r (w ∷ [])) ∷ ‵ (fobor κ q (Body (mem R) b o γ)) ∷ ‵ (fobs γ u) ∷ ‵ (fauth γ v) ∷ Γ) G
-  shut t z r w b o = step (λ s.
-      use1 W (‵ (cellAt fullShare (R .mir) (w ∷ []) b o)) (W .laws .at-raw fullShare T′.mir b o w) $ closes t z R r (w ∷ []) b o $
+      (‵ (fat fullShare T′.mir b o (low r)) ∷ ‵ (fobor κ q (Body (mem R) b o γ)) ∷ ‵ (fobs γ u) ∷ ‵ (fauth γ v) ∷ Γ) G
+  shut t z r is b o = step (λ s.
+      owned t R (Is R) (LL.makes T.the-type T′.the-plain 𝓤 H A) r (low r ∷ []) is $ move t (1 ∷ []) $ use1 W (‵ (cellAt fullShare (R .mir) (low r ∷ []) b o)) (W .laws .at-raw fullShare T′.mir b o (low r)) $ closes t z R r (low r ∷ []) b o $
       feqI t (List Val) (vptr b o ∷ []) (vptr b o ∷ []) refl $ fjoin3 t $ s)
 
   -- the meter alone

@@ -79,12 +79,11 @@ fn write_format(image: &mut [u8], capacity: usize, pages: usize, n: usize) -> Ou
     let need = image.len() + 1;
     let head = sizes::head_page(capacity, pages);
     let zero = [0u8; 1];
-    let a = meter::write_at(image, 0, &zero, Meter { left: n, made: 0 });
-    let b = meter::write_at(image, 1, &head[1..64], a);
-    let c = meter::write_zeros(image, 64, b);
-    let d = meter::write_at(image, 0, &head[0..1], c);
-    let made = d.made;
-    report(need, n, made)
+    let a = meter::write_at(image, 0, &zero, n);
+    let b = meter::write_at(image, 1, &head[1..64], n - a);
+    let c = meter::write_zeros(image, 64, n - (a + b));
+    let d = meter::write_at(image, 0, &head[0..1], n - (a + b + c));
+    report(need, n, a + b + c + d)
 }
 
 // Formats the image for L log entries and R record pages.

@@ -1,5 +1,5 @@
 // The stages of commit and recover. One meter is made for a call and lent to each of its stages in turn.
-// Each stage takes the meter's numbers out, lets a covered function spend them, and puts back what is left and made.
+// Each stage takes the stores left out of it, lets a function of `entry` spend them, and puts both numbers back.
 use crate::entry;
 use crate::meter::Meter;
 ghost use Prim.Native.Nat.{_+_, _<_, _^_};
@@ -13,9 +13,10 @@ fn log_stage(image: &mut [u8], home: usize, space: &[u8], pages: usize, k: usize
     requires { ⌜ Loggable (now image) home (now space) pages k × (now meter .left + now meter .made < 2 ^ 64) ⌝ }
     ensures { λ _. ⌜ Stage (now (meter .entry) .left) (now (meter .entry) .made) (logStores (changes (drop home (now (image .entry))) (now (space .entry)) pages)) (now (image .entry)) (now (meter .exit) .left) (now (meter .exit) .made) (now (image .exit)) ⌝ }
 {
-    let m = *meter;
-    let v = entry::write_log(image, home, space, pages, k, m);
-    *meter = v;
+    let left = meter.left;
+    let n = entry::write_log(image, home, space, pages, k, left);
+    meter.left = left - n;
+    meter.made = meter.made + n;
 }
 
 // The last stage of a commit and the only one of a recovery: the logged pages to home, then the mark cleared.
@@ -23,9 +24,10 @@ fn replay_stage(image: &mut [u8], k: usize, home: usize, meter: &mut Meter)
     requires { ⌜ (0 < now meter .left → Replayable (now image) home k) × (now meter .left + now meter .made < 2 ^ 64) ⌝ }
     ensures { λ _. ⌜ Stage (now (meter .entry) .left) (now (meter .entry) .made) (recoverStores home (entries (now (image .entry)) 0 k)) (now (image .entry)) (now (meter .exit) .left) (now (meter .exit) .made) (now (image .exit)) ⌝ }
 {
-    let m = *meter;
-    let v = entry::replay_log(image, k, home, m);
-    *meter = v;
+    let left = meter.left;
+    let n = entry::replay_log(image, k, home, left);
+    meter.left = left - n;
+    meter.made = meter.made + n;
 }
 
 // A recovery: one stage.
