@@ -9,7 +9,7 @@ use lib.Seq.{take-nil}
 use lib.Dec.{leb}
 use borrow.Author.Tests.{le-leb, lt-leb, eq-eqb, ne-eqb}
 use Rattle.wire.specs.Bytes.{pick, over, bytes16}
-use Rattle.wire.specs.Cases.{by-test, and-false}
+use Rattle.wire.specs.Cases.{by-test, by-lt, and-false}
 use Rattle.wire.specs.All.{All, all-map}
 use Rattle.log.specs.declared.Head.{Head}
 use Rattle.log.specs.declared.Head.the-variants.{Bad, Clear, Committed}
@@ -18,11 +18,11 @@ use Rattle.log.specs.Store.{run}
 use Rattle.log.specs.StoreLaws.{apply-none, length-run, run-append}
 use Rattle.log.specs.Image.{letters, capacity, recordPages, count, pages, homeAt, home, inRange, imageLength, headOk, headOf}
 use Rattle.log.specs.ImageLaws.{Right}
-use Rattle.log.specs.Entry.{Entry, entryAt, entries, rising, changes}
-use Rattle.log.specs.EntryLaws.{Long, Whole, entries-long, length-entries, changes-few, rising-below}
-use Rattle.log.specs.Stage.{Stage, stage-more, stage-stopped, stage-whole, stage-answer}
+use Rattle.log.specs.Entry.{Entry, entryAt, entries, rising, changes, Replayable, Loggable}
+use Rattle.log.specs.EntryLaws.{Whole, entries-long, length-entries, changes-few, changes-whole, rising-below}
+use Rattle.log.specs.Stage.{Stage, stage-more, stage-empty, stage-whole, stage-answer}
 use Rattle.log.specs.Calls.{Plan, refuse, store, answer, after, atHead, headPage, emptyImage, formatStores, formatPlan, recoverStores, logOf, logOk, logStores, commitStores, changed, committedPlan, clearPlan, anyBytes}
-use Rattle.log.specs.CallLaws.{length-recover, length-log, length-commit, commit-is, log-entries}
+use Rattle.log.specs.CallLaws.{length-recover, length-commit, commit-is, log-entries}
 
 -- ---- any call
 
@@ -85,40 +85,40 @@ module _ (l w : List ℕ) where
   unfolding home
   changed-is L R e f = rw (e, f)
 
--- the stages of a commit's stores; H is home as it stands at h, q its number of pages
-module _ {n n₁ m₁ : ℕ} {l l₁ : List ℕ} (h q : ℕ) (w : List ℕ) (some : 0 < length (changes (drop h l) w q)) (fit : entryAt (length (changes (drop h l) w q)) ≤ length l)
-    (whole : All (Whole q) (changes (drop h l) w q)) (few : q < 65536) (s : Stage n 0 (logStores (changes (drop h l) w q)) l n₁ m₁ l₁) where
+-- a commit's stores; home stands at h and has q pages, of which k differ from the workspace w
+module _ (l : List ℕ) (h : ℕ) (w : List ℕ) (q k : ℕ) (fit : Loggable l h w q k) (some : 0 < k) where
   es : List Entry
   es = changes (drop h l) w q
 
-  long : All Long es
+  whole : All (Whole q) es
   unfolding es
-  long = all-map (λ e t. t .long) whole
+  whole = changes-whole (drop h l) w q (omega (arith, fit .1))
 
-  -- no store is left once the log's were made, or were not
-  pub commit-stops : n₁ ≡ 0 → (Cut m₁ ≡ answer (store (commitStores h (changes (drop h l) w q))) n) × (l₁ ≡ after (store (commitStores h (changes (drop h l) w q))) n l)
+  pub commit-answer : {n n' m' : ℕ} {l' : List ℕ} → Stage n 0 (commitStores h (changes (drop h l) w q)) l n' m' l'
+      → (pick (leb (130 * k + 4) n) (Done m') (Cut m') ≡ answer (store (commitStores h (changes (drop h l) w q))) n) × (l' ≡ after (store (commitStores h (changes (drop h l) w q))) n l)
   unfolding es
-  commit-stops z =
-      let t : Stage n 0 (commitStores h es) l 0 m₁ l₁ = rw (commit-is h es some) (stage-more (rw z at s) (stage-stopped m₁ (recoverStores h es) l₁)) in
-      let less : n < 130 * length es + 4 = omega (arith, s .left, length-log long) in
-      rw (lt-leb (130 * length es + 4) n less) at (stage-answer (130 * length es + 4) (length-commit h es some long) t)
+  commit-answer {n' = n'} {m' = m'} {l' = l'} s =
+      rw (fit .2) (stage-answer (130 * length es + 4) (length-commit h es (omega (arith, fit .2)) (all-map (λ e t. t .long) whole)) s)
 
-  -- stores are left, so the log is whole
-  pub commit-reads : 0 < n₁ → entries l₁ 0 (length (changes (drop h l) w q)) ≡ changes (drop h l) w q
-  commit-reads g =
-      rw (stage-whole s g)
-      (log-entries l (all-map (λ e t. record { below = omega (arith, t .below); long = t .long }) whole) (omega (arith, changes-few (drop h l) w q)) fit)
+  -- in two stages: the log was written first
+  module _ {n m n₁ m₁ : ℕ} {l₁ : List ℕ} (few : q < 65536) (s : Stage n m (logStores (changes (drop h l) w q)) l n₁ m₁ l₁) where
+    -- stores are left, so it is whole
+    commit-reads : 0 < n₁ → entries l₁ 0 k ≡ changes (drop h l) w q
+    unfolding es
+    commit-reads g =
+        rw (stage-whole s g, fit .2)
+        (log-entries l (all-map (λ e t. record { below = omega (arith, t .below); long = t .long }) whole) (omega (arith, changes-few (drop h l) w q)) (omega (arith, fit .0, fit .2, fit .3)))
 
-  pub commit-inside : 0 < n₁ → (N : ℕ) → h + 64 * q ≤ N → All (λ e. h + 64 * e .page + 64 ≤ N) (entries l₁ 0 (length (changes (drop h l) w q)))
-  commit-inside g N b = rw (commit-reads g) (all-map (λ e t. omega (arith, t .below)) whole)
+    pub commit-replays : length l₁ ≡ length l → 0 < n₁ → Replayable l₁ h k
+    unfolding es
+    commit-replays f g = (fit .3, rw (commit-reads g) (all-map (λ e t. omega (arith, t .below, fit .0)) whole), omega (arith, fit .0))
 
-  pub commit-goes-on : {n₂ m₂ : ℕ} {l₂ : List ℕ} → 0 < n₁ → Stage n₁ m₁ (recoverStores h (entries l₁ 0 (length (changes (drop h l) w q)))) l₁ n₂ m₂ l₂
-      → (pick (leb (130 * length (changes (drop h l) w q) + 4) n) (Done m₂) (Cut m₂) ≡ answer (store (commitStores h (changes (drop h l) w q))) n)
-      × (l₂ ≡ after (store (commitStores h (changes (drop h l) w q))) n l)
-  unfolding es
-  commit-goes-on {n₂} {m₂} {l₂} g t =
-      let all : Stage n 0 (commitStores h es) l n₂ m₂ l₂ = rw (commit-is h es some) (stage-more s (rw (commit-reads g) at t)) in
-      stage-answer (130 * length es + 4) (length-commit h es some long) all
+    -- a replay of what the log's stage left is the rest; with no store left, any stage is
+    pub commit-stages : {n₂ m₂ : ℕ} {l₂ : List ℕ} → Stage n₁ m₁ (recoverStores h (entries l₁ 0 k)) l₁ n₂ m₂ l₂ → Stage n m (commitStores h (changes (drop h l) w q)) l n₂ m₂ l₂
+    unfolding es
+    commit-stages t = rw (commit-is h es (omega (arith, fit .2))) (by-lt 0 n₁
+        (λ g. stage-more s (rw (commit-reads g) at t))
+        (λ g. stage-more s (stage-empty (omega arith) t)))
 
 -- ---- the head
 

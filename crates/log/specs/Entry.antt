@@ -1,9 +1,12 @@
 -- Log entries, and the stores that write and replay them.
-use Prim.Native.Nat.{ℕ, zero, suc, _+_, _*_}
+use mathlib.Core.Path.{_≡_}
+use Prim.Native.Nat.{ℕ, zero, suc, _+_, _*_, _≤_}
 use mathlib.Core.Bool.{Bool, true, _&&_}
 use mathlib.Core.List.{List, [], _∷_, _++_}
+use lib.ListN.{length, drop}
 use lib.Dec.{leb, ltb}
 use Rattle.wire.specs.Bytes.{pick, part, get16, bytes16, equal}
+use Rattle.wire.specs.All.{All}
 use Rattle.log.specs.Store.{Store, run}
 
 -- a home page number and that page's new bytes
@@ -46,3 +49,11 @@ logged j (e ∷ es) = run (entryAt j) (bytes16 (e .page) ++ e .bytes) ++ logged 
 unfoldable pub replay : ℕ → List Entry → List Store
 replay h [] = []
 replay h (e ∷ es) = run (h + 64 * e .page) (e .bytes) ++ replay h es
+
+-- the k pages in which home, the image's last q pages from h on, and workspace w differ have their places in the log below home
+abbrev pub Loggable : List ℕ → ℕ → List ℕ → ℕ → ℕ → Type 0
+Loggable l h w q k = (h + 64 * q ≡ length l) × (64 * q ≡ length w) × (k ≡ length (changes (drop h l) w q)) × (entryAt k ≤ h)
+
+-- a log of k entries that can be replayed: it lies below home, which starts at h, and each entry's page has its place in the image
+abbrev pub Replayable : List ℕ → ℕ → ℕ → Type 0
+Replayable l h k = (entryAt k ≤ h) × All (λ e. h + 64 * e .page + 64 ≤ length l) (entries l 0 k) × (h ≤ length l)

@@ -20,12 +20,31 @@ pub record Stage (n m : ℕ) (ss : List Store) (l : List ℕ) (n' m' : ℕ) (l' 
   pub made : m' ≡ m + min n (length ss)
   pub bytes : l' ≡ apply (take n ss) l
 
+-- c stores of ss were made, n being left, and none before
+abbrev pub Makes : ℕ → List Store → List ℕ → ℕ → List ℕ → Type 0
+Makes n ss l c l' = Stage n 0 ss l (n - c) c l'
+
+pub makes-within : {n c : ℕ} {ss : List Store} {l l' : List ℕ} → Makes n ss l c l' → c ≤ n
+makes-within s = omega (arith, s .made)
+
+-- with m made before
+pub stage-from : {n c : ℕ} {ss : List Store} {l l' : List ℕ} (m : ℕ) → Makes n ss l c l' → Stage n m ss l (n - c) (m + c) l'
+stage-from m s = record { left = s .left; made = omega (arith, s .made); bytes = s .bytes }
+
+-- with m of n made before, so that n₁ are left
+pub stage-next : {n₁ c : ℕ} (n m : ℕ) {ss : List Store} {l l' : List ℕ} → n₁ ≡ n - m → Makes n₁ ss l c l' → Stage (n - m) m ss l (n - (m + c)) (m + c) l'
+stage-next {n₁} {c} n m {ss} {l} e s = record { left = omega (arith, e, s .left); made = omega (arith, e, s .made); bytes = s .bytes ∙ ap (λ (j : ℕ). apply (take j ss) l) e }
+
 pub stage-none : (n m : ℕ) (l : List ℕ) → Stage n m [] l n m l
 stage-none n m l = record { left = omega arith; made = omega arith; bytes = rw take-nil (sym (apply-none l)) }
 
 -- with no store left, none is made
-pub stage-stopped : (m : ℕ) (ss : List Store) (l : List ℕ) → Stage 0 m ss l 0 m l
-stage-stopped m ss l = record { left = omega arith; made = omega arith; bytes = sym (apply-none l) }
+pub stage-stopped : (n m : ℕ) (ss : List Store) (l : List ℕ) → n ≡ 0 → Stage n m ss l n m l
+stage-stopped n m ss l e = record { left = omega arith; made = omega arith; bytes = rw e (sym (apply-none l)) }
+
+-- so it does not matter which
+pub stage-empty : {n m n' m' : ℕ} {ss ts : List Store} {l l' : List ℕ} → n ≡ 0 → Stage n m ss l n' m' l' → Stage n m ts l n' m' l'
+stage-empty {n} {m} {ss} {ts} {l} e s = record { left = omega arith; made = omega arith; bytes = s .bytes ∙ ap (λ (j : ℕ). apply (take j ss) l) e ∙ sym (ap (λ (j : ℕ). apply (take j ts) l) e) }
 
 -- one stage after another
 pub stage-more : {n m n₁ m₁ n₂ m₂ : ℕ} {ss ts : List Store} {l l₁ l₂ : List ℕ}

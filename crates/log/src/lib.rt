@@ -3,17 +3,18 @@
 mod entry;
 mod meter;
 mod sizes;
+mod stages;
 
 use meter::Meter;
 ghost use mathlib.Core.Path.{_≡_};
 ghost use mathlib.Core.Bool.{true};
 ghost use mathlib.Core.List.{[]};
-ghost use Prim.Native.Nat.{_+_, _*_, _≤_, _<_};
+ghost use Prim.Native.Nat.{_<_};
 ghost use lib.ListN.{length, drop};
 ghost use lib.Dec.{leb};
 ghost use Rattle.wire.specs.Bytes.{pick};
 ghost use Rattle.log.specs.Image.{headOf, headOk, home as homeOf, inRange, imageLength};
-ghost use Rattle.log.specs.Entry.{entryAt, changes};
+ghost use Rattle.log.specs.Entry.{changes, Loggable};
 ghost use Rattle.log.specs.Calls.{answer, after, store, formatPlan, formatStores, recoverPlan, committedPlan, commitPlan, clearPlan, commitStores, anyBytes};
 
 // What a call that stores answers: done or cut, with the number of stores made, or refused with its number.
@@ -78,12 +79,11 @@ fn write_format(image: &mut [u8], capacity: usize, pages: usize, n: usize) -> Ou
     let need = image.len() + 1;
     let head = sizes::head_page(capacity, pages);
     let zero = [0u8; 1];
-    let a = meter::write_at(image, 0, &zero, Meter { left: n, made: 0 });
-    let b = meter::write_at(image, 1, &head[1..64], a);
-    let c = meter::write_zeros(image, 64, b);
-    let d = meter::write_at(image, 0, &head[0..1], c);
-    let made = d.made;
-    report(need, n, made)
+    let a = meter::write_at(image, 0, &zero, n);
+    let b = meter::write_at(image, 1, &head[1..64], n - a);
+    let c = meter::write_zeros(image, 64, n - (a + b));
+    let d = meter::write_at(image, 0, &head[0..1], n - (a + b + c));
+    report(need, n, a + b + c + d)
 }
 
 // Formats the image for L log entries and R record pages.
@@ -118,8 +118,8 @@ fn recover_committed(image: &mut [u8], n: usize) -> Outcome
         return Outcome::Refused(4);
     }
     if entry::rising(image, k, pages) {
-        let v = entry::replay_log(image, k, 64 + 66 * capacity, Meter { left: n, made: 0 });
-        let made = v.made;
+        let meter = stages::recover(image, k, 64 + 66 * capacity, Meter { left: n, made: 0 });
+        let made = meter.made;
         report(64 * k + 1, n, made)
     } else {
         Outcome::Refused(4)
@@ -148,18 +148,13 @@ fn commit_pages(
     k: usize,
     n: usize,
 ) -> Outcome
-    requires { ⌜ (home + 64 * pages ≡ length (now image)) × (64 * pages ≡ length (now space)) × (pages < 65536) ⌝ }
-    requires { ⌜ (k ≡ length (changes (drop home (now image)) (now space) pages)) × (0 < k) × (entryAt k ≤ home) ⌝ }
+    requires { ⌜ Loggable (now image) home (now space) pages k × (0 < k) × (pages < 65536) ⌝ }
     ensures { λ r. ⌜ r ≡ answer (store (commitStores home (changes (drop home (now (image .entry))) (now (space .entry)) pages))) n ⌝ }
     ensures { λ _. ⌜ now (image .exit) ≡ after (store (commitStores home (changes (drop home (now (image .entry))) (now (space .entry)) pages))) n (now (image .entry)) ⌝ }
 {
-    let v = entry::write_log(image, home, space, pages, k, Meter { left: n, made: 0 });
-    let left = v.left;
-    if left == 0 {
-        return Outcome::Cut(v.made);
-    }
-    let u = entry::replay_log(image, k, home, v);
-    let made = u.made;
+    let start = Meter { left: n, made: 0 };
+    let end = stages::commit(image, home, space, pages, k, start);
+    let made = end.made;
     report(130 * k + 4, n, made)
 }
 

@@ -1,9 +1,9 @@
-// Stores left and stores made, and the writers that spend them.
+// Stores left and stores made. Each writer is told how many are left, and answers how many it made.
 ghost use mathlib.Core.Path.{_≡_};
-ghost use Prim.Native.Nat.{_+_, _-_, _≤_, _<_, _^_, min};
+ghost use Prim.Native.Nat.{_+_, _-_, _≤_, min};
 ghost use lib.ListN.{length, replicate};
 ghost use Rattle.log.specs.Store.{run};
-ghost use Rattle.log.specs.Stage.{Stage};
+ghost use Rattle.log.specs.Stage.{Makes};
 
 pub struct Meter {
     pub left: usize,
@@ -16,47 +16,35 @@ fn least(a: usize, b: usize) -> usize
     if a < b { a } else { b }
 }
 
-// n stores were made.
-fn spent(m: Meter, n: usize) -> Meter
-    requires { ⌜ (n ≤ m .left) × (m .left + m .made < 2 ^ 64) ⌝ }
-    ensures { λ r. ⌜ (r .left ≡ m .left - n) × (r .made ≡ m .made + n) ⌝ }
-{
-    let left = m.left;
-    Meter {
-        left: left - n,
-        made: m.made + n,
-    }
-}
-
 // Stores src at dst's start, as far as the stores left go.
-pub(crate) fn write_run(dst: &mut [u8], src: &[u8], m: Meter) -> Meter
-    requires { ⌜ (length (now src) ≤ length (now dst)) × (m .left + m .made < 2 ^ 64) ⌝ }
-    ensures { λ r. ⌜ Stage (m .left) (m .made) (run 0 (now (src .entry))) (now (dst .entry)) (r .left) (r .made) (now (dst .exit)) ⌝ }
+pub(crate) fn write_run(dst: &mut [u8], src: &[u8], left: usize) -> usize
+    requires { ⌜ length (now src) ≤ length (now dst) ⌝ }
+    ensures { λ r. ⌜ Makes left (run 0 (now (src .entry))) (now (dst .entry)) r (now (dst .exit)) ⌝ }
 {
-    let n = least(m.left, src.len());
+    let n = least(left, src.len());
     let mut i = 0;
     while i < n {
         dst[i] = src[i];
         i += 1;
     }
-    spent(m, n)
+    n
 }
 
 // Stores src at an offset of the image: the part is lent to the writer.
-pub(crate) fn write_at(image: &mut [u8], at: usize, src: &[u8], m: Meter) -> Meter
-    requires { ⌜ (at + length (now src) ≤ length (now image)) × (m .left + m .made < 2 ^ 64) ⌝ }
-    ensures { λ r. ⌜ Stage (m .left) (m .made) (run at (now (src .entry))) (now (image .entry)) (r .left) (r .made) (now (image .exit)) ⌝ }
+pub(crate) fn write_at(image: &mut [u8], at: usize, src: &[u8], left: usize) -> usize
+    requires { ⌜ at + length (now src) ≤ length (now image) ⌝ }
+    ensures { λ r. ⌜ Makes left (run at (now (src .entry))) (now (image .entry)) r (now (image .exit)) ⌝ }
 {
     let end = at + src.len();
-    write_run(&mut image[at..end], src, m)
+    write_run(&mut image[at..end], src, left)
 }
 
 // Stores zeros from an offset of the image to its end.
-pub(crate) fn write_zeros(image: &mut [u8], at: usize, m: Meter) -> Meter
-    requires { ⌜ (at ≤ length (now image)) × (m .left + m .made < 2 ^ 64) ⌝ }
-    ensures { λ r. ⌜ Stage (m .left) (m .made) (run at (replicate (length (now (image .entry)) - at) 0)) (now (image .entry)) (r .left) (r .made) (now (image .exit)) ⌝ }
+pub(crate) fn write_zeros(image: &mut [u8], at: usize, left: usize) -> usize
+    requires { ⌜ at ≤ length (now image) ⌝ }
+    ensures { λ r. ⌜ Makes left (run at (replicate (length (now (image .entry)) - at) 0)) (now (image .entry)) r (now (image .exit)) ⌝ }
 {
-    let n = least(m.left, image.len() - at);
+    let n = least(left, image.len() - at);
     wire::fill(image, at, n, 0);
-    spent(m, n)
+    n
 }

@@ -64,7 +64,7 @@ returns-3 c =
 commit-pages-requires : tie.Need-commit-pages-requires
 commit-pages-requires c κs =
     let r = head-right (c .before .before .before .before .before .before .before .before .before .before .before .before .args .image .now) (c .before .before .before .before .before .before .before .before .before .before .before .before .pre) in
-    ((omega arith, omega arith, omega arith), (c .before .before .before .count-changed .ensures, omega arith, omega arith))
+    ((omega arith, omega arith, c .before .before .before .count-changed .ensures, omega arith), omega arith, omega arith)
 
 same-length-4 : tie.Need-same-length-4
 same-length-4 c = search needs

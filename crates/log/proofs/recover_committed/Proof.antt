@@ -33,18 +33,18 @@ returns-2 c = let a = c .before .before .before .before .before .before .before 
 rising-requires : tie.Need-rising-requires
 rising-requires c κs = let r = head-right (c .before .before .before .before .before .before .before .before .before .before .args .image .now) (c .before .before .before .before .before .before .before .before .before .before .pre) in omega arith
 
-mul-replay-log : tie.Need-mul-replay-log
-mul-replay-log c = search needs
+mul-recover : tie.Need-mul-recover
+mul-recover c = search needs
 
-add-replay-log : tie.Need-add-replay-log
-add-replay-log c = search needs
+add-recover : tie.Need-add-recover
+add-recover c = search needs
 
-replay-log-requires : tie.Need-replay-log-requires
-replay-log-requires c κs =
+recover-requires : tie.Need-recover-requires
+recover-requires c κs =
     let l = c .before .before .before .before .before .before .before .before .before .before .before .before .before .args .image .now in
     let r = head-right l (c .before .before .before .before .before .before .before .before .before .before .before .before .before .pre) in
     let up = rw (c .before .before .before .before .before .before .before .before .get162 .ensures .0, c .before .before .before .before .before .before .get163 .ensures .0) at (sym (c .before .before .rising .ensures) ∙ c .before .if3 .taken) in
-    (omega arith, rw (c .before .before .before .before .before .before .before .before .before .before .get16 .ensures .0, c .before .before .before .before .before .before .get163 .ensures .0) (logged-inside l r up), omega arith, omega arith)
+    ((omega arith, rw (c .before .before .before .before .before .before .before .before .before .before .get16 .ensures .0, c .before .before .before .before .before .before .get163 .ensures .0) (logged-inside l r up), omega arith), omega arith)
 
 mul-report : tie.Need-mul-report
 mul-report c = search needs
@@ -66,7 +66,7 @@ returns-3 c =
     let k = c .before .before .before .before .before .before .before .before .before .before .get163 .ensures .0 in
     let up = rw (c .before .before .before .before .before .before .before .before .before .before .before .before .get162 .ensures .0, k) at (sym (c .before .before .before .before .before .before .rising .ensures) ∙ c .before .before .before .before .before .if3 .taken) in
     let plan = well-logged l (λ e. c .before .before .before .before .before .before .before .before .before .if1 .left (k ∙ e)) (omega arith) up in
-    let x = recovered-is l _ plan (omega arith) (rw (c .before .before .before .before .before .before .before .before .before .before .before .before .before .before .get16 .ensures .0, k) at (c .before .before .before .replay-log .ensures)) in
+    let x = recovered-is l _ plan (omega arith) (rw (c .before .before .before .before .before .before .before .before .before .before .before .before .before .before .get16 .ensures .0, k) at (c .before .before .before .recover .ensures)) in
     (rw k at (c .report .ensures) ∙ x .0, x .1)
 
 same-length-4 : tie.Need-same-length-4
@@ -90,9 +90,9 @@ recover-committed-spec =
     same-length-2
     returns-2
     rising-requires
-    mul-replay-log
-    add-replay-log
-    replay-log-requires
+    mul-recover
+    add-recover
+    recover-requires
     mul-report
     add-report
     report-requires

@@ -1,3 +1,5 @@
+use mathlib.Core.Path.{refl}
+use Rattle.log.specs.Stage.{stage-next}
 use Prim.Native.Nat.{_*_}
 use Rattle.wire.specs.BytesLaws.{part-of}
 use Rattle.log.specs.Turns.{logged-one}
@@ -32,8 +34,14 @@ part-write-at-start c = search needs
 part-write-at-end : tie.Need-part-write-at-end
 part-write-at-end c = search needs
 
+sub-write-at-2 : tie.Need-sub-write-at-2
+sub-write-at-2 c = search needs
+
 write-at-requires-2 : tie.Need-write-at-requires-2
 write-at-requires-2 c κs = search needs
+
+add-result : tie.Need-add-result
+add-result c = search needs
 
 same-length : tie.Need-same-length
 same-length c = search needs
@@ -41,7 +49,7 @@ same-length c = search needs
 returns : tie.Need-returns
 returns c =
     let a = c .before .before .before .before .before .before .before .before .before .before .before .before .before .args in
-    logged-one (a .at) (a .p) _ _ (c .before .before .before .before .before .before .before .before .before .before .bytes16 .ensures) (c .before .before .before .before .before .before .before .write-at .ensures) (rw (part-of (a .space .now) (64 * a .p) 64) at (c .before .before .write-at2 .ensures))
+    logged-one (a .at) (a .p) _ _ (c .before .before .before .before .before .before .before .before .before .before .bytes16 .ensures) (c .before .before .before .before .before .before .before .write-at .ensures) (stage-next (a .left) (c .before .before .before .before .before .before .before .write-at .result) refl (rw (part-of (a .space .now) (64 * a .p) 64) at (c .before .before .write-at2 .ensures)))
 
 pub log-entry-spec : {M : Type 1} → statement M
 log-entry-spec =
@@ -56,6 +64,8 @@ log-entry-spec =
     sub-write-at
     part-write-at-start
     part-write-at-end
+    sub-write-at-2
     write-at-requires-2
+    add-result
     same-length
     returns)

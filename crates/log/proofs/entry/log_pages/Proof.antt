@@ -1,3 +1,4 @@
+use native.Mathlib.Nat.{sub-zero}
 use mathlib.Core.Path.{_≡_, refl, sym, ap, _∙_}
 use native.Mathlib.Omega.{arith}
 use Prim.Native.Nat.{_*_, _-_, _≤_}
@@ -7,17 +8,17 @@ use Rattle.wire.specs.Bytes.{equal}
 use Rattle.wire.specs.BytesLaws.{length-part}
 use Rattle.log.specs.Entry.{page, changes, logged}
 use Rattle.log.specs.EntryLaws.{changes-none, changes-same, changes-more}
-use Rattle.log.specs.Stage.{Stage, stage-none}
+use Rattle.log.specs.Stage.{stage-none, stage-next, Makes}
 use Rattle.log.specs.Turns.{logged-more, logged-home, changes-room}
 use borrow.Author.Needs.{needs}
 use Rattle.log.proofs.entry.log_pages.Statement.{statement}
 use Rattle.log.proofs.entry.log_pages.Tie as tie
 
 abbrev Inv-loop : tie.InvT-loop
-Inv-loop image₀ home space pages v₀ k₀ p₀ image v k p = (p ≤ pages) × (k ≤ p) × (k ≡ length (changes (drop home image₀) space p)) × (length image ≡ length image₀) × (drop home image ≡ drop home image₀) × Stage (v₀ .left) (v₀ .made) (logged 0 (changes (drop home image₀) space p)) image₀ (v .left) (v .made) image
+Inv-loop image₀ home space pages left made₀ k₀ p₀ image made k p = (p ≤ pages) × (k ≤ p) × (k ≡ length (changes (drop home image₀) space p)) × (length image ≡ length image₀) × (drop home image ≡ drop home image₀) × Makes left (logged 0 (changes (drop home image₀) space p)) image₀ made image
 
 abbrev μ-loop : tie.MeasureT-loop
-μ-loop image₀ home space pages v₀ k₀ p₀ image v k p = pages - p
+μ-loop image₀ home space pages left made₀ k₀ p₀ image made k p = pages - p
 
 -- the test of a page is as it was at the start
 tested : (c : tie.After-same-page Inv-loop μ-loop)
@@ -26,7 +27,7 @@ tested c = ap (λ H. equal (page H (c .before .before .before .loop .p)) (page (
 
 loop-holds : tie.Need-loop-holds Inv-loop μ-loop
 unfolding logged
-loop-holds c = (omega arith, omega arith, rw changes-none, refl, refl, rw changes-none (stage-none _ _ _))
+loop-holds c = (omega arith, omega arith, rw changes-none, refl, refl, rw (changes-none, sub-zero) (stage-none _ _ _))
 
 same-page-requires : tie.Need-same-page-requires Inv-loop μ-loop
 same-page-requires c κs = search needs
@@ -50,12 +51,18 @@ mul-log-entry c = search needs
 add-log-entry : tie.Need-add-log-entry Inv-loop μ-loop
 add-log-entry c = search needs
 
+sub-log-entry : tie.Need-sub-log-entry Inv-loop μ-loop
+sub-log-entry c = search needs
+
 log-entry-requires : tie.Need-log-entry-requires Inv-loop μ-loop
 log-entry-requires c κs =
     let a = c .before .before .before .before .before .before .before .before .args in
     let l = c .before .before .before .before .before .loop in
     let room = changes-room (drop (a .home) (a .image .now)) (a .space .now) (l .p) (a .pages) (tested (c .before .before) ∙ c .before .if1 .left) (omega arith) in
     omega arith
+
+add-made : tie.Need-add-made Inv-loop μ-loop
+add-made c = search needs
 
 add-k : tie.Need-add-k Inv-loop μ-loop
 add-k c = search needs
@@ -79,7 +86,7 @@ loop-again-2 c =
       rw (add-one (l .p), changes-more H (a .space .now) (l .p) differs, length-append) (omega arith),
       omega arith,
       logged-home (a .home) (l .k) (l .p) (page (a .space .now) (l .p)) (c .before .before .log-entry .ensures) long (omega arith) ∙ l .inv .4,
-      rw (add-one (l .p), changes-more H (a .space .now) (l .p) differs) (logged-more (changes H (a .space .now) (l .p)) (record { page = l .p; bytes = page (a .space .now) (l .p) }) (l .k) (l .inv .2) (l .inv .5) (c .before .before .log-entry .ensures)),
+      rw (add-one (l .p), changes-more H (a .space .now) (l .p) differs) (logged-more (changes H (a .space .now) (l .p)) (record { page = l .p; bytes = page (a .space .now) (l .p) }) (l .k) (l .inv .2) (l .inv .5) (stage-next (a .left) (l .made) refl (c .before .before .log-entry .ensures))),
     )
 
 same-length : tie.Need-same-length Inv-loop μ-loop
@@ -104,7 +111,9 @@ log-pages-spec =
     loop-again
     mul-log-entry
     add-log-entry
+    sub-log-entry
     log-entry-requires
+    add-made
     add-k
     add-p-2
     loop-less-2

@@ -4,23 +4,26 @@ use Prim.Native.Nat.{_+_, _*_, _-_, _≤_}
 use native.Mathlib.Nat.{sub-zero}
 use lib.ListN.{length}
 use Rattle.wire.specs.All.{All, all-head, all-tail}
-use Rattle.log.specs.Entry.{entry, entries, replay}
+use Rattle.log.specs.Entry.{entries, replay}
 use Rattle.log.specs.EntryLaws.{entries-none, entries-first}
-use Rattle.log.specs.Stage.{Stage, stage-none}
+use Rattle.log.specs.Stage.{stage-none, stage-next, Makes}
 use Rattle.log.specs.Turns.{replayed-entry, replayed-more}
 use borrow.Author.Needs.{needs}
 use Rattle.log.proofs.entry.replay.Statement.{statement}
 use Rattle.log.proofs.entry.replay.Tie as tie
 
 abbrev Inv-loop : tie.InvT-loop
-Inv-loop image₀ k home v₀ j₀ image v j = (j ≤ k) × (length image ≡ length image₀) × All (λ e. home + 64 * e .page + 64 ≤ length image₀) (entries image₀ j (k - j)) × Stage (v₀ .left) (v₀ .made) (replay home (entries image₀ 0 j)) image₀ (v .left) (v .made) image
+Inv-loop image₀ k home left made₀ j₀ image made j = (j ≤ k) × (length image ≡ length image₀) × All (λ e. home + 64 * e .page + 64 ≤ length image₀) (entries image₀ j (k - j)) × Makes left (replay home (entries image₀ 0 j)) image₀ made image
 
 abbrev μ-loop : tie.MeasureT-loop
-μ-loop image₀ k home v₀ j₀ image v j = k - j
+μ-loop image₀ k home left made₀ j₀ image made j = k - j
 
 loop-holds : tie.Need-loop-holds Inv-loop μ-loop
 unfolding replay
-loop-holds c = (omega arith, refl, rw sub-zero (c .before .pre .1), rw entries-none (stage-none _ _ _))
+loop-holds c = (omega arith, refl, rw sub-zero (c .before .pre .1), rw (entries-none, sub-zero) (stage-none _ _ _))
+
+sub-replay-one : tie.Need-sub-replay-one Inv-loop μ-loop
+sub-replay-one c = search needs
 
 replay-one-requires : tie.Need-replay-one-requires Inv-loop μ-loop
 replay-one-requires c κs =
@@ -28,7 +31,10 @@ replay-one-requires c κs =
     let l = c .before .before .loop in
     let first = all-head (rw (entries-first (a .image .now) (l .j) (a .k) (omega arith)) at (l .inv .2)) in
     let same = replayed-entry (a .home) (l .j) (entries (a .image .now) 0 (l .j)) (l .inv .3) (omega arith) in
-    (omega arith, rw same (omega (arith, first)), omega arith)
+    (omega arith, rw same (omega (arith, first)))
+
+add-made : tie.Need-add-made Inv-loop μ-loop
+add-made c = search needs
 
 add-j : tie.Need-add-j Inv-loop μ-loop
 add-j c = search needs
@@ -43,7 +49,7 @@ loop-again c =
       omega arith,
       omega arith,
       all-tail (rw (entries-first (a .image .now) (l .j) (a .k) (omega arith)) at (l .inv .2)),
-      replayed-more (a .home) (l .j) (omega arith) (l .inv .3) (c .before .before .replay-one .ensures),
+      replayed-more (a .home) (l .j) (omega arith) (l .inv .3) (stage-next (a .left) (l .made) refl (c .before .before .replay-one .ensures)),
     )
 
 same-length : tie.Need-same-length Inv-loop μ-loop
@@ -62,7 +68,9 @@ replay-spec =
     Inv-loop
     μ-loop
     loop-holds
+    sub-replay-one
     replay-one-requires
+    add-made
     add-j
     loop-less
     loop-again

@@ -1,7 +1,6 @@
-use mathlib.Core.Path.{ap, _∙_}
-use Rattle.wire.specs.Bytes.{bytes16}
+use mathlib.Core.Path.{refl}
 use Rattle.log.specs.Calls.{logStores}
-use Rattle.log.specs.Stage.{stage-more}
+use Rattle.log.specs.Stage.{stage-more, stage-next}
 use borrow.Author.Needs.{needs}
 use Rattle.log.proofs.entry.write_log.Statement.{statement}
 use Rattle.log.proofs.entry.write_log.Tie as tie
@@ -9,20 +8,14 @@ use Rattle.log.proofs.entry.write_log.Tie as tie
 log-pages-requires : tie.Need-log-pages-requires
 log-pages-requires c κs = search needs
 
-bytes16-requires : tie.Need-bytes16-requires
-bytes16-requires c κs = search needs
+sub-mark-log : tie.Need-sub-mark-log
+sub-mark-log c = search needs
 
-slice-aggregate-write-at : tie.Need-slice-aggregate-write-at
-slice-aggregate-write-at c = search needs
+mark-log-requires : tie.Need-mark-log-requires
+mark-log-requires c κs = search needs
 
-write-at-requires : tie.Need-write-at-requires
-write-at-requires c κs = search needs
-
-slice-aggregate-write-at-2 : tie.Need-slice-aggregate-write-at-2
-slice-aggregate-write-at-2 c = search needs
-
-write-at-requires-2 : tie.Need-write-at-requires-2
-write-at-requires-2 c κs = search needs
+add-result : tie.Need-add-result
+add-result c = search needs
 
 same-length : tie.Need-same-length
 same-length c = search needs
@@ -30,18 +23,8 @@ same-length c = search needs
 returns : tie.Need-returns
 unfolding logStores
 returns c =
-    let count = c .before .before .before .before .before .before .before .before .before .before .bytes16 .ensures ∙ ap bytes16 (c .before .before .before .before .before .before .before .before .before .before .before .before .before .before .before .before .before .pre .1 .0) in
-    stage-more (c .before .before .before .before .before .before .before .before .before .before .before .before .before .log-pages .ensures) (stage-more (rw count at (c .before .before .before .before .before .before .before .write-at .ensures)) (c .before .before .write-at2 .ensures))
+    let s = c .before .before .before .before .before .before .before .before .before .before in
+    stage-more (c .before .before .before .before .before .before .log-pages .ensures) (stage-next (s .args .left) (c .before .before .before .before .before .before .log-pages .result) refl (rw (s .pre .2) at (c .before .before .mark-log .ensures)))
 
 pub write-log-spec : {M : Type 1} → statement M
-write-log-spec =
-    tie.close
-    (tie.spec
-    log-pages-requires
-    bytes16-requires
-    slice-aggregate-write-at
-    write-at-requires
-    slice-aggregate-write-at-2
-    write-at-requires-2
-    same-length
-    returns)
+write-log-spec = tie.close (tie.spec log-pages-requires sub-mark-log mark-log-requires add-result same-length returns)

@@ -11,10 +11,10 @@ use Rattle.log.proofs.meter.write_run.Statement.{statement}
 use Rattle.log.proofs.meter.write_run.Tie as tie
 
 abbrev Inv-loop : tie.InvT-loop
-Inv-loop dst₀ src m n i₀ dst i = (i ≤ n) × (dst ≡ over dst₀ 0 (take i src)) × (length dst ≡ length dst₀)
+Inv-loop dst₀ src left n i₀ dst i = (i ≤ n) × (dst ≡ over dst₀ 0 (take i src)) × (length dst ≡ length dst₀)
 
 abbrev μ-loop : tie.MeasureT-loop
-μ-loop dst₀ src m n i₀ dst i = n - i
+μ-loop dst₀ src left n i₀ dst i = n - i
 
 least-requires : tie.Need-least-requires Inv-loop μ-loop
 least-requires c κs = search needs
@@ -41,18 +41,16 @@ loop-again c =
     let turn = over-take (a .dst .now) 0 (a .src .now) (l .i) (omega arith) in
     (omega arith, rw (l .inv .1) (rw (zero-add (l .i)) at turn), simp length-set (omega arith))
 
-spent-requires : tie.Need-spent-requires Inv-loop μ-loop
-spent-requires c κs = search needs
-
 same-length : tie.Need-same-length Inv-loop μ-loop
 same-length c = search needs
 
 returns : tie.Need-returns Inv-loop μ-loop
 returns c =
-    let a = c .before .before .before .before .before .before .args in
-    let l = c .before .before .loop in
-    let e : l .i ≡ c .before .before .before .least .result = omega arith in
-    stage-run (a .m .left) (a .m .made) (c .before .before .before .least .result) 0 (a .src .now) (a .dst .now) _ (c .before .before .before .least .ensures) (c .spent .ensures) (rw e at (l .inv .1))
+    let a = c .before .before .before .before .before .args in
+    let l = c .before .loop in
+    let n = c .before .before .least .result in
+    let e : l .i ≡ n = omega arith in
+    stage-run (a .left) 0 n 0 (a .src .now) (a .dst .now) _ (c .before .before .least .ensures) (omega arith, omega arith) (rw e at (l .inv .1))
 
 pub write-run-spec : {M : Type 1} → statement M
 write-run-spec =
@@ -67,6 +65,5 @@ write-run-spec =
     add-i
     loop-less
     loop-again
-    spent-requires
     same-length
     returns)

@@ -18,20 +18,17 @@ least-requires c κs = search needs
 fill-requires : tie.Need-fill-requires
 fill-requires c κs = search needs
 
-spent-requires : tie.Need-spent-requires
-spent-requires c κs = search needs
-
 same-length : tie.Need-same-length
 same-length c = search needs
 
 returns : tie.Need-returns
 returns c =
-    let a = c .before .before .before .before .before .before .before .args in
-    let n = c .before .before .before .before .before .least .result in
+    let a = c .before .before .before .before .before .before .args in
+    let n = c .before .before .before .before .least .result in
     let all = length (a .image .now) - a .at in
-    stage-run (a .m .left) (a .m .made) n (a .at) (replicate all 0) (a .image .now) _ (omega (arith, length-replicate {A = ℕ} all 0)) (c .spent .ensures)
-    (c .before .before .before .fill .ensures ∙ ap (over (a .image .now) (a .at)) (sym (take-replicate n all 0 (omega arith))))
+    stage-run (a .left) 0 n (a .at) (replicate all 0) (a .image .now) _ (omega (arith, length-replicate {A = ℕ} all 0)) (omega arith, omega arith)
+    (c .before .before .fill .ensures ∙ ap (over (a .image .now) (a .at)) (sym (take-replicate n all 0 (omega arith))))
 
 pub write-zeros-spec : {M : Type 1} → statement M
 write-zeros-spec =
-    tie.close (tie.spec sub-least least-requires fill-requires spent-requires same-length returns)
+    tie.close (tie.spec sub-least least-requires fill-requires same-length returns)
