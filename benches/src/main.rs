@@ -1,5 +1,5 @@
 //! Times the library against memcmp, hand-written Rust and SQLite, and prints a table of ratios:
-//! `figures [REPEATS]`. Each ratio is of medians over repeats in which the two take turns.
+//! `figures [REPEATS]`. Each ratio is a median over repeats in which the two take turns.
 mod hand;
 #[cfg(sqlite)]
 mod sqlite;
@@ -13,7 +13,7 @@ extern "C" {
 }
 
 fn main() {
-    let repeats = std::env::args().nth(1).map_or(31, |a| a.parse().expect("a number"));
+    let repeats = std::env::args().nth(1).map_or(101, |a| a.parse().expect("a number"));
     soundness(repeats);
     against_hand(repeats);
     #[cfg(sqlite)]
@@ -28,31 +28,44 @@ fn median(mut v: Vec<f64>) -> f64 {
     v[v.len() / 2]
 }
 
-/// How often f goes into about a millisecond.
+/// How often f goes into about a fifth of a millisecond.
 fn often(f: &mut dyn FnMut()) -> u32 {
     let mut n = 1;
     loop {
         let start = Instant::now();
         (0..n).for_each(|_| f());
-        if start.elapsed().as_micros() > 1000 || n > 1 << 20 {
+        if start.elapsed().as_micros() > 200 || n > 1 << 20 {
             return n;
         }
         n *= 2;
     }
 }
 
-/// The medians of several functions in nanoseconds, which take turns.
-fn race<const N: usize>(repeats: usize, mut fs: [&mut dyn FnMut(); N]) -> [f64; N] {
-    let counts: Vec<u32> = fs.iter_mut().map(|f| often(*f)).collect();
-    let mut times: [Vec<f64>; N] = std::array::from_fn(|_| Vec::new());
-    for _ in 0..repeats {
-        for (i, f) in fs.iter_mut().enumerate() {
-            let start = Instant::now();
-            (0..counts[i]).for_each(|_| f());
-            times[i].push(start.elapsed().as_nanos() as f64 / counts[i] as f64);
-        }
+/// The times of several functions that take turns, in nanoseconds.
+struct Race(Vec<Vec<f64>>);
+
+impl Race {
+    fn run(repeats: usize, mut fs: Vec<&mut dyn FnMut()>) -> Race {
+        let counts: Vec<u32> = fs.iter_mut().map(|f| often(*f)).collect();
+        let mut turn = || {
+            let time = |(f, n): (&mut &mut dyn FnMut(), &u32)| {
+                let start = Instant::now();
+                (0..*n).for_each(|_| f());
+                start.elapsed().as_nanos() as f64 / *n as f64
+            };
+            fs.iter_mut().zip(&counts).map(time).collect()
+        };
+        Race((0..repeats).map(|_| turn()).collect())
     }
-    times.map(median)
+
+    fn time(&self, i: usize) -> f64 {
+        median(self.0.iter().map(|t| t[i]).collect())
+    }
+
+    /// The i-th time as a multiple of the j-th.
+    fn ratio(&self, i: usize, j: usize) -> f64 {
+        median(self.0.iter().map(|t| t[i] / t[j]).collect())
+    }
 }
 
 // ---- images
@@ -146,9 +159,9 @@ fn soundness(repeats: usize) {
             let b = filled(pages, fill);
             let other = b.space.clone();
             let (s, o) = (&b.space[..], &other[..]);
-            let [compare, library, hand] = race(
+            let race = Race::run(
                 repeats,
-                [
+                vec![
                     &mut || {
                         black_box(unsafe { memcmp(black_box(s).as_ptr(), black_box(o).as_ptr(), s.len()) });
                     },
@@ -158,7 +171,7 @@ fn soundness(repeats: usize) {
                     &mut || assert!(black_box(hand::sound(black_box(s)))),
                 ],
             );
-            println!("| {pages} | {name} | {:.1} | {:.1} | {compare:.0} |", library / compare, hand / compare);
+            println!("| {pages} | {name} | {:.1} | {:.1} | {:.0} |", race.ratio(1, 0), race.ratio(2, 0), race.time(0));
         }
     }
 }
@@ -209,9 +222,9 @@ fn against_hand(repeats: usize) {
         assert!(one == two, "the hand-written puts leave other bytes");
         let (image, start) = (&b.image[..], &b.image);
         let (mut space1, mut space2) = (b.space.clone(), b.space.clone());
-        let put = race(
+        let put = Race::run(
             repeats,
-            [
+            vec![
                 &mut || {
                     one.copy_from_slice(start);
                     library_puts(&mut one, &mut space1, &row);
@@ -222,46 +235,46 @@ fn against_hand(repeats: usize) {
                 },
             ],
         );
-        let count = race(
+        let count = Race::run(
             repeats,
-            [
+            vec![
                 &mut || _ = black_box(cix::count_image(black_box(image), 7)),
                 &mut || _ = black_box(hand::count_image(black_box(image), 7)),
             ],
         );
-        let show = race(
+        let show = Race::run(
             repeats,
-            [
+            vec![
                 &mut || _ = black_box(cix::show_image(black_box(image), 7).len()),
                 &mut || _ = black_box(hand::show_image(black_box(image), 7).len()),
             ],
         );
         let (mut out1, mut out2) = (vec![0; 16000], vec![0; 16000]);
-        let either = race(
+        let either = Race::run(
             repeats,
-            [
+            vec![
                 &mut || _ = black_box(cix::merge_image(black_box(image), cix::Merge::Either, 0, 7, &mut out1)),
                 &mut || _ = black_box(hand::either_image(black_box(image), 0, 7, &mut out2)),
             ],
         );
         assert!(out1 == out2);
         let recover = recoveries(&b, repeats);
-        let r = |t: [f64; 2]| format!("{:.2}", t[0] / t[1]);
+        let r = |race: Race| format!("{:.2}", race.ratio(0, 1));
         println!("| {pages} | {} | {} | {} | {} | {} |", r(put), r(count), r(show), r(either), r(recover));
     }
 }
 
 /// A commit's recovery: the mark set again and the log replayed.
-fn recoveries(b: &Bench, repeats: usize) -> [f64; 2] {
+fn recoveries(b: &Bench, repeats: usize) -> Race {
     let (mut image, mut space) = (b.image.clone(), b.space.clone());
     cix::begin(&image, &mut space).unwrap();
     cix::put(&mut space, 0, Record { level: 9, second: 1, phone: 1, minutes: 1 }).unwrap();
     let Stored::Done(all) = cix::commit(&mut image.clone(), &space, cix::ALL).unwrap() else { panic!() };
     cix::commit(&mut image, &space, all - 1).unwrap();
     let mut other = image.clone();
-    race(
+    Race::run(
         repeats,
-        [
+        vec![
             &mut || {
                 image[10] = 165;
                 cix::recover(black_box(&mut image), cix::ALL).unwrap();
@@ -293,29 +306,30 @@ fn against_sqlite(repeats: usize) {
             b.calls.iter().for_each(|&(tag, call)| t.put(tag, call));
             t.exec("COMMIT");
         }
-        let mut times: [Vec<f64>; 3] = Default::default();
+        let mut turns = Vec::new();
         for _ in 0..repeats {
             image.copy_from_slice(&b.image);
             let start = Instant::now();
             library_puts(&mut image, &mut space, &row);
-            times[0].push(start.elapsed().as_nanos() as f64);
-            for (i, t) in [&memory, &journal].into_iter().enumerate() {
+            let mut times = vec![start.elapsed().as_nanos() as f64];
+            for t in [&memory, &journal] {
                 let start = Instant::now();
                 row.iter().for_each(|&(tag, call)| t.put(tag, call));
-                times[i + 1].push(start.elapsed().as_nanos() as f64);
+                times.push(start.elapsed().as_nanos() as f64);
                 t.exec("BEGIN");
                 row.iter().for_each(|&(tag, call)| t.delete(tag, call));
                 t.exec("COMMIT");
             }
+            turns.push(times);
         }
-        let [library, in_memory, on_file] = times.map(median);
+        let puts = Race(turns);
         let sum = |image: &[u8]| -> u64 { cix::records(cix::show_image(image, 7)).map(|r| r.second as u64).sum() };
         assert_eq!(sum(&b.image), memory.seconds(7));
-        let read = race(
+        let read = Race::run(
             repeats,
-            [&mut || _ = black_box(sum(black_box(&b.image))), &mut || _ = black_box(memory.seconds(7))],
+            vec![&mut || _ = black_box(sum(black_box(&b.image))), &mut || _ = black_box(memory.seconds(7))],
         );
-        println!("| {pages} | {:.2} | {:.2} | {:.2} |", in_memory / library, on_file / library, read[1] / read[0]);
+        println!("| {pages} | {:.2} | {:.2} | {:.2} |", puts.ratio(1, 0), puts.ratio(2, 0), read.ratio(1, 0));
         let _ = std::fs::remove_file(file);
     }
 }
@@ -331,14 +345,14 @@ fn by_size(repeats: usize) {
         let mut b = filled(pages, Fill::Half);
         let row = puts(&mut b);
         let (mut image, mut space) = (b.image.clone(), b.space.clone());
-        let [t] = race(
+        let race = Race::run(
             repeats,
-            [&mut || {
+            vec![&mut || {
                 image.copy_from_slice(&b.image);
                 library_puts(&mut image, &mut space, &row);
             }],
         );
-        let each = t / row.len() as f64;
+        let each = race.time(0) / row.len() as f64;
         let base = *base.get_or_insert(each);
         println!("| {pages} | {} | {:.1} | {:.2} |", b.image.len(), each / base, each / 1000.0);
     }
