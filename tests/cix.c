@@ -1,0 +1,144 @@
+/* Calls every function of cix.h: on no bytes at all, on bytes of a wrong length, and through the
+ * specification's bench cases. */
+#include "cix.h"
+#include <stdio.h>
+#include <string.h>
+
+static int failed, checked;
+
+static void check(const char *what, uint64_t got, uint64_t want, int line) {
+    checked++;
+    if (got != want) {
+        failed++;
+        printf("cix.c:%d: %s: %llu:%llu, not %llu:%llu\n", line, what,
+               (unsigned long long)(got >> 32), (unsigned long long)(uint32_t)got,
+               (unsigned long long)(want >> 32), (unsigned long long)(uint32_t)want);
+    }
+}
+
+#define IS(call, kind, number) check(#call, call, ((uint64_t)(kind) << 32) + (number), __LINE__)
+#define DONE(call, number) IS(call, CIX_DONE, number)
+#define CUT(call, number) IS(call, CIX_CUT, number)
+#define REFUSED(call, number) IS(call, CIX_REFUSED, number)
+
+enum { PAGES = 2, ENTRIES = 28 };
+static uint8_t image[CIX_IMAGE_BYTES(ENTRIES, PAGES)], space[CIX_SPACE_BYTES(PAGES)];
+#define IMAGE image, sizeof image
+#define SPACE space, sizeof space
+
+/* The cell of a tag's block, from where its records lie. */
+static size_t cell(uint32_t tag) {
+    return (CIX_PLACE(cix_show_space(SPACE, tag)) - 1664) / 8 - 1;
+}
+
+static void no_bytes(void) {
+    REFUSED(cix_format(NULL, 0, 1, 1, CIX_ALL), CIX_SIZES);
+    REFUSED(cix_begin(NULL, 0, NULL, 0), CIX_BAD_HEAD);
+    REFUSED(cix_put(NULL, 0, 7, 1, 2, 3, 4), CIX_SPACE_LENGTH);
+    REFUSED(cix_delete(NULL, 0, 7, 1, 2, 3), CIX_SPACE_LENGTH);
+    REFUSED(cix_set_minutes(NULL, 0, 7, 1, 2, 3, 4), CIX_SPACE_LENGTH);
+    REFUSED(cix_drop_tag(NULL, 0, 7), CIX_SPACE_LENGTH);
+    REFUSED(cix_commit(NULL, 0, NULL, 0, CIX_ALL), CIX_BAD_HEAD);
+    REFUSED(cix_recover(NULL, 0, CIX_ALL), CIX_BAD_HEAD);
+    REFUSED(cix_count_image(NULL, 0, 7), CIX_BAD_HEAD);
+    REFUSED(cix_count_space(NULL, 0, 7), CIX_SPACE_LENGTH);
+    DONE(cix_show_image(NULL, 0, 7), 0);
+    DONE(cix_show_space(NULL, 0, 7), 0);
+    REFUSED(cix_both_image(NULL, 0, 7, 9, NULL, 0), CIX_BAD_HEAD);
+    REFUSED(cix_either_image(NULL, 0, 7, 9, NULL, 0), CIX_BAD_HEAD);
+    REFUSED(cix_without_image(NULL, 0, 7, 9, NULL, 0), CIX_BAD_HEAD);
+    REFUSED(cix_both_space(NULL, 0, 7, 9, NULL, 0), CIX_SPACE_LENGTH);
+    REFUSED(cix_either_space(NULL, 0, 7, 9, NULL, 0), CIX_SPACE_LENGTH);
+    REFUSED(cix_without_space(NULL, 0, 7, 9, NULL, 0), CIX_SPACE_LENGTH);
+}
+
+/* Lengths below the true ones, each of them. */
+static void short_lengths(void) {
+    for (size_t n = 0; n < sizeof image; n++) {
+        REFUSED(cix_begin(image, n, SPACE), CIX_BAD_HEAD);
+        REFUSED(cix_recover(image, n, CIX_ALL), CIX_BAD_HEAD);
+        REFUSED(cix_format(image, n, ENTRIES, PAGES, CIX_ALL), CIX_SIZES);
+    }
+    for (size_t n = 0; n < sizeof space; n++) {
+        REFUSED(cix_begin(IMAGE, space, n), CIX_SPACE_LENGTH);
+        REFUSED(cix_commit(IMAGE, space, n, CIX_ALL), CIX_SPACE_LENGTH);
+        if (n != CIX_SPACE_BYTES(1))
+            REFUSED(cix_put(space, n, 7, 0, 0, 0, 0), CIX_SPACE_LENGTH);
+    }
+}
+
+/* Bench cases 1 to 6. */
+static void blocks(void) {
+    DONE(cix_put(SPACE, 7, 1, 100, 9, 0), 1);
+    DONE(cix_put(SPACE, 9, 1, 100, 9, 0), 1);
+    check("cell of 7", cell(7), 0, __LINE__);
+    check("cell of 9", cell(9), 5, __LINE__);
+    for (uint32_t i = 1; i <= 4; i++)
+        DONE(cix_put(SPACE, 7, 1, 100 + i, 9, 0), 1 + i);
+    check("cell of 9", cell(9), 0, __LINE__);
+    check("cell of 7", cell(7), 5, __LINE__);
+    DONE(cix_put(SPACE, 11, 1, 100, 9, 0), 1);
+    check("cell of 7", cell(7), 10, __LINE__);
+    REFUSED(cix_put(SPACE, 13, 1, 100, 9, 0), CIX_NO_ROOM);
+    DONE(cix_delete(SPACE, 7, 1, 102, 9), 4);
+    REFUSED(cix_delete(SPACE, 7, 1, 102, 9), CIX_UNKNOWN);
+    REFUSED(cix_put(SPACE, 13, 1, 100, 9, 0), CIX_NO_ROOM);
+    DONE(cix_drop_tag(SPACE, 9), 0);
+    REFUSED(cix_drop_tag(SPACE, 9), CIX_UNKNOWN);
+    check("cell of 7", cell(7), 0, __LINE__);
+    DONE(cix_put(SPACE, 13, 1, 100, 9, 0), 1);
+    check("cell of 13", cell(13), 10, __LINE__);
+    REFUSED(cix_put(SPACE, 13, 1, 100, 9, 5), CIX_LISTED);
+    DONE(cix_set_minutes(SPACE, 13, 1, 100, 9, 5), 1);
+}
+
+static void merges(void) {
+    uint8_t out[48];
+    memset(out, 77, sizeof out);
+    DONE(cix_count_space(SPACE, 7), 4);
+    DONE(cix_both_space(SPACE, 13, 7, out, sizeof out), 1);
+    check("minutes", out[7], 5, __LINE__);
+    check("byte behind", out[8], 77, __LINE__);
+    DONE(cix_either_space(SPACE, 13, 7, out, sizeof out), 4);
+    DONE(cix_without_space(SPACE, 7, 13, out, sizeof out), 3);
+    check("second", out[4], 101, __LINE__);
+    REFUSED(cix_either_space(SPACE, 13, 7, out, 31), CIX_OUTPUT_SHORT);
+}
+
+/* Bench cases 8 and 12: a commit cut before its mark, after it, and recovered. */
+static void cuts(void) {
+    uint8_t before[sizeof image];
+    DONE(cix_format(IMAGE, ENTRIES, PAGES, CIX_ALL), sizeof image + 1);
+    DONE(cix_begin(IMAGE, SPACE), 0);
+    DONE(cix_commit(IMAGE, SPACE, 0), 0);
+    DONE(cix_put(SPACE, 7, 1, 100, 9, 0), 1);
+    memcpy(before, image, sizeof image);
+    CUT(cix_commit(IMAGE, SPACE, 200), 200);
+    DONE(cix_count_image(IMAGE, 7), 0);
+    DONE(cix_recover(IMAGE, CIX_ALL), 0);
+    memcpy(image, before, sizeof image);
+    CUT(cix_commit(IMAGE, SPACE, 201), 201);
+    REFUSED(cix_count_image(IMAGE, 7), CIX_UNRECOVERED);
+    CUT(cix_recover(IMAGE, 100), 100);
+    DONE(cix_recover(IMAGE, CIX_ALL), 193);
+    DONE(cix_count_image(IMAGE, 7), 1);
+    memcpy(image, before, sizeof image);
+    DONE(cix_commit(IMAGE, SPACE, CIX_ALL), 394);
+    DONE(cix_both_image(IMAGE, 7, 7, NULL, 0) - cix_without_image(IMAGE, 7, 8, NULL, 0), 0);
+    REFUSED(cix_either_image(IMAGE, 7, 8, NULL, 0), CIX_OUTPUT_SHORT);
+    uint64_t shown = cix_show_image(IMAGE, 7);
+    check("length", CIX_LENGTH(shown), 8, __LINE__);
+    check("bytes", memcmp(image + CIX_PLACE(shown), "\1\0\0\0\144\0\11", 8), 0, __LINE__);
+}
+
+int main(void) {
+    no_bytes();
+    DONE(cix_format(IMAGE, ENTRIES, PAGES, CIX_ALL), sizeof image + 1);
+    DONE(cix_begin(IMAGE, SPACE), 0);
+    short_lengths();
+    blocks();
+    merges();
+    cuts();
+    printf("C: %d checks, %d failed\n", checked, failed);
+    return failed != 0;
+}

@@ -1,0 +1,181 @@
+//! Holds the library against the model: `hold [CALLS [SEED]]`. Every call is made of both, and its
+//! answer and every lent byte are compared.
+mod model;
+mod pair;
+mod random;
+
+use model::Of;
+use pair::Pair;
+use random::Random;
+use std::time::{Instant, SystemTime, UNIX_EPOCH};
+
+fn main() {
+    let mut args = std::env::args().skip(1).map(|a| a.parse::<u64>().expect("a number"));
+    let calls = args.next().unwrap_or(1_000_000);
+    let seed = args
+        .next()
+        .unwrap_or_else(|| SystemTime::now().duration_since(UNIX_EPOCH).unwrap().as_micros() as u64);
+    println!("seed {seed}");
+    let start = Instant::now();
+    let mut tally = Tally::default();
+    if calls >= 100_000 {
+        every_cut(&mut tally);
+    }
+    println!("every cut of a commit, with every cut of its recovery: {} calls", tally.calls);
+    let mut rng = Random::new(seed);
+    while tally.calls < calls {
+        one_image(&mut rng, &mut tally);
+    }
+    let mut refusals: Vec<String> = Vec::new();
+    for (n, k) in tally.refused.iter().enumerate().filter(|(_, k)| **k > 0) {
+        refusals.push(format!("{n}: {k}"));
+    }
+    println!("{} calls, {} images, refusals {}", tally.calls, tally.images, refusals.join(", "));
+    println!("same answers and bytes in all, {:.1} s", start.elapsed().as_secs_f64());
+    if calls >= 1_000_000 {
+        assert!((1..=15).all(|n| tally.refused[n] > 0), "a refusal was never met");
+    }
+}
+
+#[derive(Default)]
+pub struct Tally {
+    calls: u64,
+    images: u64,
+    refused: [u64; 16],
+}
+
+// ---- every cut, on small images
+
+/// Each cut of a commit, then each cut of a recovery, then a whole one: the old home or the new one.
+fn every_cut(tally: &mut Tally) {
+    for (entries, pages, tags) in [(28, 2, 1), (4, 1, 1), (27, 1, 2), (30, 4, 3)] {
+        let mut p = Pair::formatted(entries, pages, tally);
+        p.begin(tally);
+        for tag in 0..tags {
+            for second in 0..2 {
+                p.put(tag, [1, 0, 0, 0, second, 0, 9, 0], tally);
+            }
+        }
+        let (old, new) = (p.home().to_vec(), p.space.clone());
+        let k = old.chunks(64).zip(new.chunks(64)).filter(|(a, b)| a != b).count() as u32;
+        for n in 0..=130 * k + 4 {
+            let mut cut = p.clone();
+            cut.commit(n, tally);
+            cut.count(Of::Image, 0, tally);
+            let marked = n >= 66 * k + 3;
+            let owed = if marked && n < 130 * k + 4 { 64 * k + 1 } else { 0 };
+            for m in 0..=owed {
+                let mut again = cut.clone();
+                again.recover(m, tally);
+                again.recover(cix::ALL, tally);
+                assert!(again.home() == if marked { &new } else { &old }, "neither old nor new");
+            }
+        }
+    }
+}
+
+// ---- random calls
+
+/// One image with its workspace, edited, read, committed, cut, recovered and spoiled.
+fn one_image(rng: &mut Random, tally: &mut Tally) {
+    let pages = match rng.below(100) {
+        0..=59 => 1 + rng.below(4),
+        60..=84 => 5 + rng.below(12),
+        85..=96 => 17 + rng.below(48),
+        97 => 1024,
+        _ => 65 + rng.below(200),
+    };
+    let entries = if rng.one_in(4) { 1 + rng.below(26 + pages) } else { 26 + pages };
+    let mut p = Pair::blank(rng, entries, pages);
+    tally.images += 1;
+    p.format(entries, pages, rng.allowance(68 * pages), tally);
+    p.format(rng.below(2 * (26 + pages)), pages + rng.below(2), cix::ALL, tally);
+    p.recover(rng.allowance(100), tally);
+    p.format(entries, pages, cix::ALL, tally);
+    let long = pages > 200 && rng.one_in(2);
+    let tags = if long { 1 } else { [1, 2, 3, 6, 20, 300][rng.below(6) as usize] };
+    let seconds = if long { 3000 } else { [3, 20, 200, 2000][rng.below(4) as usize] };
+    let fill = long || rng.one_in(2);
+    let steps = if pages >= 65 { 3000 } else { 50 + rng.below(400) };
+    p.begin(tally);
+    for _ in 0..steps {
+        let tag = rng.tag(tags);
+        match rng.below(100) {
+            0..=39 => p.put(tag, rng.record(seconds), tally),
+            40..=54 if !fill => p.delete(tag, rng.listed(&p, tag, seconds), tally),
+            55..=59 => p.set_minutes(tag, rng.listed(&p, tag, seconds), tally),
+            60 if !long => p.drop_tag(tag, tally),
+            61..=66 => p.commit(rng.allowance(900), tally),
+            67..=69 => p.commit(cix::ALL, tally),
+            70..=73 => p.recover(rng.allowance(500), tally),
+            74..=75 => p.begin(tally),
+            76..=87 => read(&mut p, rng, tags, tally),
+            88 => spoiled(&p, rng, tags, seconds, tally),
+            89 => shortened(&p, rng, tags, tally),
+            _ => p.put(tag, rng.record(seconds), tally),
+        }
+    }
+}
+
+fn read(p: &mut Pair, rng: &mut Random, tags: u32, tally: &mut Tally) {
+    let of = if rng.one_in(2) { Of::Image } else { Of::Space };
+    match rng.below(3) {
+        0 => p.count(of, rng.tag(tags), tally),
+        1 => p.show(of, rng.tag(tags), tally),
+        _ => p.merge(of, rng, tags, tally),
+    }
+}
+
+fn any(p: &mut Pair, rng: &mut Random, tags: u32, seconds: u32, tally: &mut Tally) {
+    let tag = rng.tag(tags);
+    match rng.below(10) {
+        0 => p.put(tag, rng.record(seconds), tally),
+        1 => p.delete(tag, rng.listed(p, tag, seconds), tally),
+        2 => p.set_minutes(tag, rng.listed(p, tag, seconds), tally),
+        3 => p.drop_tag(tag, tally),
+        4 => p.commit(rng.allowance(900), tally),
+        5 | 6 => p.recover(rng.allowance(500), tally),
+        7 => p.begin(tally),
+        _ => read(p, rng, tags, tally),
+    }
+}
+
+/// A few calls on copies in which some bytes are anything.
+fn spoiled(p: &Pair, rng: &mut Random, tags: u32, seconds: u32, tally: &mut Tally) {
+    for _ in 0..4 {
+        let mut q = p.clone();
+        q.commit(rng.allowance(900), tally);
+        for _ in 0..1 + rng.below(2) {
+            if rng.one_in(2) {
+                rng.spoil(&mut q.image);
+            } else {
+                rng.spoil(&mut q.space);
+            }
+        }
+        for _ in 0..3 {
+            any(&mut q, rng, tags, seconds, tally);
+        }
+    }
+}
+
+/// A few calls on parts of the bytes, and on none.
+fn shortened(p: &Pair, rng: &mut Random, tags: u32, tally: &mut Tally) {
+    for _ in 0..4 {
+        let mut q = p.clone();
+        let image = rng.below(p.image.len() as u32 + 1) as usize;
+        let space = 64 * rng.below(p.space.len() as u32 / 64 + 1) as usize;
+        if rng.one_in(2) {
+            q.image.truncate(image);
+            q.image.shrink_to_fit();
+        }
+        if rng.one_in(2) {
+            q.space.truncate(space);
+            q.space.shrink_to_fit();
+        } else if rng.one_in(3) {
+            q.space.resize(p.space.len() + 64 * rng.below(3) as usize, 0);
+        }
+        for _ in 0..2 {
+            any(&mut q, rng, tags, 20, tally);
+        }
+    }
+}

@@ -1,0 +1,515 @@
+//! The specification's call index in plain Rust: written to be read beside it, not to be fast. It
+//! keeps a home as zones of blocks, and stores as a list that an allowance cuts.
+
+/// A record's 8 bytes. The first 7 are its primary part, and their order is that of level, second,
+/// phone.
+pub type Rec = [u8; 8];
+
+fn primary(r: &Rec) -> &[u8] {
+    &r[..7]
+}
+
+pub const CLASSES: usize = 30;
+
+/// A class's capacity: 4, then each the one before times 25/21, rounded up.
+pub fn capacity(class: usize) -> usize {
+    const ALL: [usize; CLASSES] = {
+        let mut all = [4; CLASSES];
+        let mut c = 1;
+        while c < CLASSES {
+            all[c] = (all[c - 1] * 25 + 20) / 21;
+            c += 1;
+        }
+        all
+    };
+    ALL[class]
+}
+
+fn size(class: usize) -> usize {
+    capacity(class) + 1
+}
+
+fn class_of(records: usize) -> Option<usize> {
+    (0..CLASSES).find(|&c| capacity(c) >= records)
+}
+
+fn two(b: &[u8], at: usize) -> usize {
+    b[at] as usize * 256 + b[at + 1] as usize
+}
+
+fn four(b: &[u8], at: usize) -> u32 {
+    u32::from_be_bytes(b[at..at + 4].try_into().unwrap())
+}
+
+fn zero(b: &[u8]) -> bool {
+    b.iter().all(|&x| x == 0)
+}
+
+#[derive(Clone)]
+pub struct Block {
+    pub tag: u32,
+    pub list: Vec<Rec>,
+}
+
+#[derive(Clone, Default)]
+pub struct Zone {
+    pub first: usize,
+    pub blocks: Vec<Block>,
+}
+
+#[derive(Clone)]
+pub struct Home {
+    pages: usize,
+    pub zones: Vec<Zone>,
+}
+
+const DICTIONARY: usize = 128;
+const AREA: usize = 1664;
+
+impl Home {
+    fn cells(&self) -> usize {
+        8 * self.pages
+    }
+
+    /// The home in these bytes, if they are sound.
+    pub fn read(b: &[u8]) -> Option<Home> {
+        let pages = (b.len() / 64).checked_sub(26)?;
+        if b.len() % 64 != 0 || !(1..=1024).contains(&pages) {
+            return None;
+        }
+        let mut home = Home { pages, zones: vec![Zone::default(); CLASSES] };
+        let tags = two(b, 0);
+        if tags > 256 || !zero(&b[122..128]) || !zero(&b[DICTIONARY + 6 * tags..AREA]) {
+            return None;
+        }
+        let mut starts = Vec::new();
+        let mut end = 0;
+        for c in 0..CLASSES {
+            let (first, count) = (two(b, 2 + 4 * c), two(b, 4 + 4 * c));
+            if count == 0 {
+                if first != 0 {
+                    return None;
+                }
+                continue;
+            }
+            let stop = first + count * size(c);
+            if first < end || first - end >= size(c) || stop > home.cells() {
+                return None;
+            }
+            if !zero(&b[AREA + 8 * end..AREA + 8 * first]) {
+                return None;
+            }
+            home.zones[c].first = first;
+            for i in 0..count {
+                let cell = first + i * size(c);
+                let at = AREA + 8 * cell;
+                let block = &b[at..at + 8 * size(c)];
+                let n = two(block, 4);
+                if n == 0 || class_of(n) != Some(c) || !zero(&block[6..8]) || !zero(&block[8 + 8 * n..]) {
+                    return None;
+                }
+                let list: Vec<Rec> =
+                    block[8..8 + 8 * n].chunks(8).map(|r| r.try_into().unwrap()).collect();
+                if list.windows(2).any(|w| primary(&w[0]) >= primary(&w[1])) {
+                    return None;
+                }
+                let tag = four(block, 0);
+                starts.push((cell, tag));
+                home.zones[c].blocks.push(Block { tag, list });
+            }
+            end = stop;
+        }
+        if !zero(&b[AREA + 8 * end..]) || starts.len() != tags {
+            return None;
+        }
+        for i in 0..tags {
+            let at = DICTIONARY + 6 * i;
+            let (tag, cell) = (four(b, at), two(b, at + 4));
+            if i > 0 && four(b, at - 6) >= tag {
+                return None;
+            }
+            if starts.binary_search(&(cell, tag)).is_err() {
+                return None;
+            }
+        }
+        Some(home)
+    }
+
+    /// The home's bytes.
+    pub fn write(&self) -> Vec<u8> {
+        let mut b = vec![0; 64 * (26 + self.pages)];
+        let mut entries = Vec::new();
+        for (c, z) in self.zones.iter().enumerate() {
+            b[2 + 4 * c..4 + 4 * c].copy_from_slice(&(z.first as u16).to_be_bytes());
+            b[4 + 4 * c..6 + 4 * c].copy_from_slice(&(z.blocks.len() as u16).to_be_bytes());
+            for (i, block) in z.blocks.iter().enumerate() {
+                let cell = z.first + i * size(c);
+                let at = AREA + 8 * cell;
+                b[at..at + 4].copy_from_slice(&block.tag.to_be_bytes());
+                b[at + 4..at + 6].copy_from_slice(&(block.list.len() as u16).to_be_bytes());
+                for (j, r) in block.list.iter().enumerate() {
+                    b[at + 8 + 8 * j..at + 16 + 8 * j].copy_from_slice(r);
+                }
+                entries.push((block.tag, cell as u16));
+            }
+        }
+        entries.sort();
+        b[0..2].copy_from_slice(&(entries.len() as u16).to_be_bytes());
+        for (i, (tag, cell)) in entries.iter().enumerate() {
+            let at = DICTIONARY + 6 * i;
+            b[at..at + 4].copy_from_slice(&tag.to_be_bytes());
+            b[at + 4..at + 6].copy_from_slice(&cell.to_be_bytes());
+        }
+        b
+    }
+
+    fn tags(&self) -> usize {
+        self.zones.iter().map(|z| z.blocks.len()).sum()
+    }
+
+    /// The class and number of a tag's block.
+    fn find(&self, tag: u32) -> Option<(usize, usize)> {
+        for (c, z) in self.zones.iter().enumerate() {
+            if let Some(i) = z.blocks.iter().position(|b| b.tag == tag) {
+                return Some((c, i));
+            }
+        }
+        None
+    }
+
+    pub fn list(&self, tag: u32) -> &[Rec] {
+        match self.find(tag) {
+            Some((c, i)) => &self.zones[c].blocks[i].list,
+            None => &[],
+        }
+    }
+
+    /// Where a tag's records begin in home.
+    fn place_of(&self, tag: u32) -> Option<usize> {
+        let (c, i) = self.find(tag)?;
+        Some(AREA + 8 * (self.zones[c].first + i * size(c)) + 8)
+    }
+
+    /// The end of the nearest nonempty zone below class c, or cell 0.
+    fn end_below(&self, c: usize) -> usize {
+        match (0..c).rev().find(|&d| !self.zones[d].blocks.is_empty()) {
+            Some(d) => self.zones[d].first + self.zones[d].blocks.len() * size(d),
+            None => 0,
+        }
+    }
+
+    /// Places a block of class c; false where there is no room, and the home is then to be thrown away.
+    fn place(&mut self, c: usize, block: Block) -> bool {
+        let at = self.end_below(c + 1);
+        let next = (c + 1..CLASSES).find(|&d| !self.zones[d].blocks.is_empty());
+        let limit = next.map_or(self.cells(), |d| self.zones[d].first);
+        let lifted = match next {
+            _ if at + size(c) <= limit => None,
+            None => return false,
+            Some(d) => {
+                let z = &mut self.zones[d];
+                let first = z.blocks.remove(0);
+                z.first = if z.blocks.is_empty() { 0 } else { z.first + size(d) };
+                Some((d, first))
+            }
+        };
+        let z = &mut self.zones[c];
+        if z.blocks.is_empty() {
+            z.first = at;
+        }
+        z.blocks.push(block);
+        match lifted {
+            Some((d, b)) => self.place(d, b),
+            None => true,
+        }
+    }
+
+    /// Takes block i of zone c out and closes the gaps above.
+    fn take_out(&mut self, c: usize, i: usize) {
+        let z = &mut self.zones[c];
+        z.blocks.swap_remove(i);
+        if z.blocks.is_empty() {
+            z.first = 0;
+        }
+        for d in c + 1..CLASSES {
+            while !self.zones[d].blocks.is_empty() && self.zones[d].first - self.end_below(d) >= size(d) {
+                let z = &mut self.zones[d];
+                let last = z.blocks.pop().unwrap();
+                z.blocks.insert(0, last);
+                z.first -= size(d);
+            }
+        }
+    }
+
+    /// Makes `list` the list of a tag; false where there is no room.
+    fn change(&mut self, tag: u32, list: Vec<Rec>) -> bool {
+        let old = self.find(tag);
+        if list.is_empty() {
+            let (c, i) = old.unwrap();
+            self.take_out(c, i);
+            return true;
+        }
+        let new = class_of(list.len()).unwrap();
+        if let Some((c, i)) = old {
+            if c == new {
+                self.zones[c].blocks[i].list = list;
+                return true;
+            }
+            self.take_out(c, i);
+        }
+        self.place(new, Block { tag, list })
+    }
+}
+
+// ---- edits: the list's count afterwards, or the refusal
+
+pub type Counted = Result<u32, u8>;
+
+fn space_home(space: &[u8]) -> Result<Home, u8> {
+    let pages = (space.len() / 64).wrapping_sub(26);
+    if space.len() % 64 != 0 || !(1..=1024).contains(&pages) {
+        return Err(6);
+    }
+    Home::read(space).ok_or(7)
+}
+
+fn edit(space: &mut [u8], tag: u32, f: impl Fn(&Home, &mut Vec<Rec>) -> Result<(), u8>) -> Counted {
+    let mut home = space_home(space)?;
+    let mut list = home.list(tag).to_vec();
+    f(&home, &mut list)?;
+    let n = list.len() as u32;
+    if !home.change(tag, list) {
+        return Err(12);
+    }
+    space.copy_from_slice(&home.write());
+    Ok(n)
+}
+
+pub fn put(space: &mut [u8], tag: u32, r: Rec) -> Counted {
+    edit(space, tag, |home, list| {
+        match list.binary_search_by(|x| primary(x).cmp(primary(&r))) {
+            Ok(_) => Err(8),
+            Err(_) if list.len() == 989 => Err(10),
+            Err(_) if list.is_empty() && home.tags() == 256 => Err(11),
+            Err(i) => Ok(list.insert(i, r)),
+        }
+    })
+}
+
+pub fn delete(space: &mut [u8], tag: u32, r: Rec) -> Counted {
+    edit(space, tag, |_, list| {
+        let i = list.iter().position(|x| primary(x) == primary(&r)).ok_or(9)?;
+        list.remove(i);
+        Ok(())
+    })
+}
+
+pub fn set_minutes(space: &mut [u8], tag: u32, r: Rec) -> Counted {
+    edit(space, tag, |_, list| {
+        let i = list.iter().position(|x| primary(x) == primary(&r)).ok_or(9)?;
+        list[i] = r;
+        Ok(())
+    })
+}
+
+pub fn drop_tag(space: &mut [u8], tag: u32) -> Counted {
+    edit(space, tag, |_, list| {
+        if list.is_empty() {
+            return Err(9);
+        }
+        list.clear();
+        Ok(())
+    })
+}
+
+// ---- the image
+
+const MARKED: u8 = 165;
+
+/// The log capacity and record pages of a right head.
+fn head(image: &[u8]) -> Result<(usize, usize), u8> {
+    if image.len() < 64 || &image[..4] != b"CIX1" || !zero(&image[11..64]) {
+        return Err(1);
+    }
+    let (entries, pages) = (two(image, 4), two(image, 6));
+    if !sizes(entries, pages) || image.len() != length(entries, pages) {
+        return Err(1);
+    }
+    if image[10] != 0 && image[10] != MARKED {
+        return Err(2);
+    }
+    Ok((entries, pages))
+}
+
+fn sizes(entries: usize, pages: usize) -> bool {
+    (1..=1024).contains(&pages) && (1..=26 + pages).contains(&entries)
+}
+
+fn length(entries: usize, pages: usize) -> usize {
+    64 + 66 * entries + 64 * (26 + pages)
+}
+
+/// Where home begins in an image with a right head.
+pub fn home_at(image: &[u8]) -> usize {
+    64 + 66 * two(image, 4)
+}
+
+fn image_home(image: &[u8]) -> Result<Home, u8> {
+    head(image)?;
+    if image[10] == MARKED {
+        return Err(3);
+    }
+    Home::read(&image[home_at(image)..]).ok_or(5)
+}
+
+/// Bytes to read: an image or a workspace.
+#[derive(Clone, Copy)]
+pub enum Of {
+    Image,
+    Space,
+}
+
+fn home_of(of: Of, bytes: &[u8]) -> Result<(Home, usize), u8> {
+    match of {
+        Of::Image => Ok((image_home(bytes)?, home_at(bytes))),
+        Of::Space => Ok((space_home(bytes)?, 0)),
+    }
+}
+
+pub fn count(of: Of, bytes: &[u8], tag: u32) -> Counted {
+    Ok(home_of(of, bytes)?.0.list(tag).len() as u32)
+}
+
+/// The place and length of a tag's records; (0, 0) for none and on refusal.
+pub fn show(of: Of, bytes: &[u8], tag: u32) -> (usize, usize) {
+    let Ok((home, at)) = home_of(of, bytes) else { return (0, 0) };
+    match home.place_of(tag) {
+        Some(p) => (at + p, 8 * home.list(tag).len()),
+        None => (0, 0),
+    }
+}
+
+#[derive(Clone, Copy)]
+pub enum Merge {
+    Both,
+    Either,
+    Without,
+}
+
+pub fn merge(of: Of, bytes: &[u8], m: Merge, first: u32, second: u32, out: &mut [u8]) -> Counted {
+    let (home, _) = home_of(of, bytes)?;
+    let (xs, ys) = (home.list(first), home.list(second));
+    let has = |l: &[Rec], r: &Rec| l.iter().any(|x| primary(x) == primary(r));
+    let mut list: Vec<Rec> = match m {
+        Merge::Both => xs.iter().filter(|x| has(ys, x)).copied().collect(),
+        Merge::Either => xs.iter().chain(ys.iter().filter(|y| !has(xs, y))).copied().collect(),
+        Merge::Without => xs.iter().filter(|x| !has(ys, x)).copied().collect(),
+    };
+    list.sort();
+    let written = list.concat();
+    if out.len() < written.len() {
+        return Err(15);
+    }
+    out[..written.len()].copy_from_slice(&written);
+    Ok(list.len() as u32)
+}
+
+pub fn begin(image: &[u8], space: &mut [u8]) -> Result<(), u8> {
+    image_home(image)?;
+    let home = &image[home_at(image)..];
+    if space.len() != home.len() {
+        return Err(6);
+    }
+    space.copy_from_slice(home);
+    Ok(())
+}
+
+// ---- calls that store
+
+/// Whether the whole was done, and the stores made.
+pub type Stored = Result<(bool, u32), u8>;
+
+struct Stores(Vec<(usize, u8)>);
+
+impl Stores {
+    fn run(&mut self, at: usize, bytes: &[u8]) {
+        self.0.extend(bytes.iter().enumerate().map(|(i, &b)| (at + i, b)));
+    }
+
+    fn make(self, image: &mut [u8], allowed: u32) -> Stored {
+        let n = self.0.len().min(allowed as usize);
+        for &(at, b) in &self.0[..n] {
+            image[at] = b;
+        }
+        Ok((self.0.len() <= allowed as usize, n as u32))
+    }
+}
+
+pub fn format(image: &mut [u8], entries: u32, pages: u32, allowed: u32) -> Stored {
+    let (l, r) = (entries as usize, pages as usize);
+    if !sizes(l, r) || image.len() != length(l, r) {
+        return Err(14);
+    }
+    let mut empty = vec![0; image.len()];
+    empty[..4].copy_from_slice(b"CIX1");
+    empty[4..6].copy_from_slice(&(l as u16).to_be_bytes());
+    empty[6..8].copy_from_slice(&(r as u16).to_be_bytes());
+    let mut s = Stores(Vec::new());
+    s.run(0, &[0]);
+    s.run(1, &empty[1..]);
+    s.run(0, &empty[..1]);
+    s.make(image, allowed)
+}
+
+pub fn commit(image: &mut [u8], space: &[u8], allowed: u32) -> Stored {
+    image_home(image)?;
+    let (entries, pages) = head(image)?;
+    if space.len() != 64 * (26 + pages) {
+        return Err(6);
+    }
+    Home::read(space).ok_or(7)?;
+    let at = home_at(image);
+    let page = |b: &[u8], p: usize| b[64 * p..64 * p + 64].to_vec();
+    let changed: Vec<usize> =
+        (0..26 + pages).filter(|&p| page(&image[at..], p) != page(space, p)).collect();
+    let k = changed.len();
+    if k > entries {
+        return Err(13);
+    }
+    let mut s = Stores(Vec::new());
+    for (j, &p) in changed.iter().enumerate() {
+        s.run(64 + 66 * j, &(p as u16).to_be_bytes());
+        s.run(66 + 66 * j, &page(space, p));
+    }
+    if k > 0 {
+        s.run(8, &(k as u16).to_be_bytes());
+        s.run(10, &[MARKED]);
+        for &p in &changed {
+            s.run(at + 64 * p, &page(space, p));
+        }
+        s.run(10, &[0]);
+        assert_eq!(s.0.len(), 130 * k + 4);
+        assert_eq!(s.0[66 * k + 2], (10, MARKED));
+    }
+    s.make(image, allowed)
+}
+
+pub fn recover(image: &mut [u8], allowed: u32) -> Stored {
+    let (entries, pages) = head(image)?;
+    let mut s = Stores(Vec::new());
+    if image[10] == MARKED {
+        let k = two(image, 8);
+        if k == 0 || k > entries {
+            return Err(4);
+        }
+        let numbers: Vec<usize> = (0..k).map(|j| two(image, 64 + 66 * j)).collect();
+        if numbers.iter().any(|&p| p >= 26 + pages) || numbers.windows(2).any(|w| w[0] >= w[1]) {
+            return Err(4);
+        }
+        for (j, p) in numbers.iter().enumerate() {
+            s.run(home_at(image) + 64 * p, &image[66 + 66 * j..130 + 66 * j]);
+        }
+        s.run(10, &[0]);
+    }
+    s.make(image, allowed)
+}
