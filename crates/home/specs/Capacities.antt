@@ -1,6 +1,6 @@
 -- Capacities and classes: the one file that knows the numbers.
 use mathlib.Core.List.{List, [], _∷_, _++_}
-use Prim.Native.Nat.{ℕ, suc, _-_}
+use Prim.Native.Nat.{ℕ, zero, suc, _-_}
 use lib.Dec.{leb}
 use lib.ListN.{getD, replicate}
 use Rattle.wire.specs.Bytes.{pick}
@@ -13,6 +13,11 @@ capacities = 4 ∷ 5 ∷ 6 ∷ 8 ∷ 10 ∷ 12 ∷ 15 ∷ 18 ∷ 22 ∷ 27 ∷ 3
 unfoldable pub capacity : ℕ → ℕ
 unfolding capacities
 capacity c = getD capacities c 989
+
+-- what the class below has room for, 0 for the lowest class: a list of class c has more records
+unfoldable pub under : ℕ → ℕ
+under zero = 0
+under (suc c) = capacity c
 
 -- "A block's size is its capacity + 1 cells"
 unfoldable pub cells : ℕ → ℕ

@@ -4,12 +4,12 @@ use mathlib.Core.Bool.{Bool, true, _&&_}
 use mathlib.Core.List.{List, [], _∷_, _++_}
 use Prim.Native.Nat.{ℕ, zero, suc, _+_, _-_, _≤_, _<_, suc-le-suc}
 use native.Mathlib.Omega.{arith}
-use native.Mathlib.Nat.{sub-zero}
+use native.Mathlib.Nat.{sub-zero, add-zero, add-suc}
 use lib.Dec.{leb}
 use lib.ListN.{length, drop, getD}
 use borrow.Author.Tests.{leb-true, leb-false}
-use Rattle.wire.specs.Cases.{both}
-use Rattle.home.specs.Capacities.{capacities, capacity, cells, classFrom, classOf, table}
+use Rattle.wire.specs.Cases.{by-lt, both}
+use Rattle.home.specs.Capacities.{capacities, capacity, under, cells, classFrom, classOf, table}
 use Rattle.home.specs.Cases.{by-pick}
 use Rattle.home.specs.Table.{table-at}
 
@@ -22,6 +22,10 @@ capacity-read c h = table-at capacity capacities refl c h
 pub table-class : (n : ℕ) → n < 990 → getD table n 0 ≡ classOf n
 unfolding table classOf
 table-class n h = table-at classOf table refl n h
+
+pub table-length : length table ≡ 990
+unfolding table
+table-length = refl
 
 -- ---- sizes
 
@@ -124,3 +128,41 @@ class-capacity n h = rw sub-zero at (holds-from 0 capacities n 989 h)
 pub class-holds : (n : ℕ) → n ≤ 989 → n < cells (classOf n)
 unfolding cells
 class-holds n h = suc-le-suc (class-capacity n (class-below n h))
+
+-- ---- a class by its bounds
+
+pub under-none : (c : ℕ) → c ≡ 0 → 0 ≡ under c
+unfolding under
+under-none zero e = refl
+under-none (suc c) e = absurd (omega arith)
+
+pub under-some : (c : ℕ) → (c ≡ 0 → ⊥) → capacity (c - 1) ≡ under c
+unfolding under
+under-some zero e = absurd (omega arith)
+under-some (suc c) e = let q : suc c - 1 ≡ c = omega arith in rw q
+
+capacity-mono : (c k : ℕ) → capacity c ≤ capacity (c + k)
+capacity-mono c zero = rw add-zero (omega arith)
+capacity-mono c (suc k) = rw add-suc (omega (arith, capacity-mono c k, cells-mono (c + k), cells-is (c + k), cells-is (suc (c + k))))
+
+-- records of class c are more than the class below has room for
+pub class-over : (n c : ℕ) → 0 < n → n < 990 → classOf n ≡ c → under c < n
+unfolding under
+class-over n zero a h e = a
+class-over n (suc c) a h e = class-least n c (omega (arith, class-below n (omega arith))) (omega arith)
+
+not-lower : (n c : ℕ) → under c < n → (d : ℕ) → d ≡ classOf n → d < 30 → d < c → ⊥
+unfolding under
+not-lower n zero l d e b k = omega arith
+not-lower n (suc c) l d e b k =
+    let s : d + (c - d) ≡ c = omega arith in
+    let m : capacity d ≤ capacity c = rw s at (capacity-mono d (c - d)) in
+    let t : n ≤ capacity d = rw (← e) at (class-capacity n (omega arith)) in
+    omega arith
+
+-- so many records as lie between the two have class c
+pub class-within : (n c : ℕ) → c < 30 → under c < n → n ≤ capacity c → classOf n ≡ c
+class-within n c b l r =
+    by-lt c (classOf n)
+    (λ k. absurd (omega (arith, class-least n c b k)))
+    (λ k. by-lt (classOf n) c (λ q. absurd (not-lower n c l (classOf n) refl (omega arith) q)) (λ q. omega arith))

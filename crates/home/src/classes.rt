@@ -1,7 +1,7 @@
 // The classes of blocks: the records that each has room for, its size, and the class of a number of records.
 ghost use mathlib.Core.Path.{_≡_};
 ghost use Prim.Native.Nat.{_≤_, _<_};
-ghost use Rattle.home.specs.Capacities.{capacity as capacityOf, cells as cellsOf, classOf};
+ghost use Rattle.home.specs.Capacities.{capacity as capacityOf, cells as cellsOf, classOf, table};
 
 // The records that a block of each class has room for.
 const CAPACITIES: [u16; 30] = [
@@ -75,4 +75,19 @@ pub fn class_of(n: usize) -> usize
     ensures { λ r. ⌜ r ≡ classOf n ⌝ }
 {
     wide8(CLASSES[n])
+}
+
+// The table for a caller to keep and lend: a constant array is stored anew at each use.
+pub fn class_table() -> [u8; 990]
+    ensures { λ r. ⌜ r ≡ table ⌝ }
+{
+    CLASSES
+}
+
+// The class by that table.
+pub fn class_in(classes: &[u8], n: usize) -> usize
+    requires { ⌜ (n < 990) × (now classes ≡ table) ⌝ }
+    ensures { λ r. ⌜ r ≡ classOf n ⌝ }
+{
+    wide8(classes[n])
 }

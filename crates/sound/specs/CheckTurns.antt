@@ -11,11 +11,11 @@ use lib.ListN.{length, take, drop}
 use borrow.Author.Tests.{ltb-true, leb-true, eqb-true, lt-ltb, le-ltb, le-leb, lt-leb, eq-eqb, ne-eqb}
 use Rattle.wire.specs.Bytes.{part, get16, get32, blank}
 use Rattle.wire.specs.BytesLaws.{part-of}
-use Rattle.wire.specs.Cases.{by-eq, both, bool-iff, never}
+use Rattle.wire.specs.Cases.{by-lt, by-eq, both, bool-iff, never}
 use Rattle.records.specs.Records.{rising, records, decode}
 use Rattle.records.specs.Edits.{decode-part}
-use Rattle.home.specs.Capacities.{capacity, cells, classOf}
-use Rattle.home.specs.CapacitiesLaws.{cells-is, cells-pos, class-below, class-holds}
+use Rattle.home.specs.Capacities.{capacity, under, cells, classOf}
+use Rattle.home.specs.CapacitiesLaws.{cells-is, cells-pos, cells-most, class-below, class-holds, class-over, class-within}
 use Rattle.home.specs.Bytes.{cellAt, countAt, firstAt, manyAt, tagAt, placeAt}
 use Rattle.home.specs.Sound.{pagesOf, sized}
 use Rattle.sound.specs.Checks.{blockFine, blocksFine, zoneFine, endAt, zonesFine, manyIn, leads, tagsFine, checked}
@@ -42,36 +42,49 @@ entryFine h area low i = leb low (tagAt h i) && (leadsAt h area (placeAt h i) &&
 -- ---- a block
 
 -- one that has its class has room for its records
-pub class-room : (c n : ℕ) → n < 990 → classOf n ≡ c → n ≤ capacity c
+class-room : (c n : ℕ) → n < 990 → classOf n ≡ c → n ≤ capacity c
 class-room c n h e =
     let b : n ≤ capacity (classOf n) = omega (arith, class-holds n (omega arith), cells-is (classOf n)) in
     rw e at b
 
 module _ (h : List ℕ) (c p n : ℕ) (e : n ≡ countAt h p) where
-  pub block-none : n ≡ 0 → false ≡ blockFine h c p
+  block-class : (0 < n → n < 990 → classOf n ≡ c → ⊥) → false ≡ blockFine h c p
   unfolding blockFine
-  block-none q = rw (← e, le-ltb 0 n (omega arith))
+  block-class q =
+      by-lt 0 n
+      (λ a. by-lt n 990
+      (λ b. rw (← e, lt-ltb 0 n a, lt-ltb n 990 b, ne-eqb (classOf n) c (q a b)))
+      (λ b. rw (← e, lt-ltb 0 n a, le-ltb n 990 b)))
+      (λ a. rw (← e, le-ltb 0 n a))
 
-  pub block-much : 990 ≤ n → false ≡ blockFine h c p
-  unfolding blockFine
-  block-much q = rw (← e, lt-ltb 0 n (omega arith), le-ltb n 990 q)
+  module _ (low room : ℕ) (k : c < 30) (el : low ≡ under c) (er : room ≡ capacity c) where
+    pub block-few : n ≤ low → false ≡ blockFine h c p
+    block-few q = block-class (λ a b d. omega (arith, class-over n c a b d))
 
-  pub block-class : (n ≡ 0 → ⊥) → n < 990 → (classOf n ≡ c → ⊥) → false ≡ blockFine h c p
-  unfolding blockFine
-  block-class a b q = rw (← e, lt-ltb 0 n (omega arith), lt-ltb n 990 b, ne-eqb (classOf n) c q)
+    pub block-much : room < n → false ≡ blockFine h c p
+    block-much q = block-class (λ a b d. omega (arith, class-room c n b d))
 
-  module _ (a : n ≡ 0 → ⊥) (b : n < 990) (q : classOf n ≡ c) (m : ℕ) (em : m ≡ get16 h (cellAt p + 6)) where
-    pub block-head : (m ≡ 0 → ⊥) → false ≡ blockFine h c p
-    unfolding blockFine
-    block-head d = rw (← e, lt-ltb 0 n (omega arith), lt-ltb n 990 b, eq-eqb (classOf n) c q, ← em, ne-eqb m 0 d)
+    module _ (lo : low < n) (hi : n ≤ room) (m : ℕ) (em : m ≡ get16 h (cellAt p + 6)) where
+      some : ltb 0 n ≡ true
+      some = lt-ltb 0 n (omega arith)
 
-    pub block-order : m ≡ 0 → rising (records h (cellAt p + 8) n) ≡ false → false ≡ blockFine h c p
-    unfolding blockFine
-    block-order d o = rw (← e, lt-ltb 0 n (omega arith), lt-ltb n 990 b, eq-eqb (classOf n) c q, ← em, eq-eqb m 0 d, o)
+      few : ltb n 990 ≡ true
+      few = lt-ltb n 990 (omega (arith, cells-is c, cells-most c))
 
-    pub block-rest : m ≡ 0 → rising (records h (cellAt p + 8) n) ≡ true → blank (part h (cellAt p + 8 + 8 * n) (8 * (capacity c - n))) ≡ blockFine h c p
-    unfolding blockFine
-    block-rest d o = rw (← e, lt-ltb 0 n (omega arith), lt-ltb n 990 b, eq-eqb (classOf n) c q, ← em, eq-eqb m 0 d, o)
+      class : eqb (classOf n) c ≡ true
+      class = eq-eqb (classOf n) c (class-within n c k (omega arith) (omega arith))
+
+      pub block-head : (m ≡ 0 → ⊥) → false ≡ blockFine h c p
+      unfolding blockFine
+      block-head d = rw (← e, some, few, class, ← em, ne-eqb m 0 d)
+
+      pub block-order : m ≡ 0 → rising (records h (cellAt p + 8) n) ≡ false → false ≡ blockFine h c p
+      unfolding blockFine
+      block-order d o = rw (← e, some, few, class, ← em, eq-eqb m 0 d, o)
+
+      pub block-rest : m ≡ 0 → rising (records h (cellAt p + 8) n) ≡ true → blank (part h (cellAt p + 8 + 8 * n) (8 * (room - n))) ≡ blockFine h c p
+      unfolding blockFine
+      block-rest d o = rw (← e, some, few, class, ← em, eq-eqb m 0 d, o, ← er)
 
 -- ---- the blocks of a zone
 

@@ -1,7 +1,8 @@
 // The test whether bytes are a sound home, in one pass over them.
 use home::classes::capacity;
 use home::classes::cells;
-use home::classes::class_of;
+use home::classes::class_in;
+use home::classes::class_table;
 use home::lookup::zone_count;
 use home::lookup::zone_first;
 ghost use mathlib.Core.Path.{_≡_};
@@ -10,7 +11,7 @@ ghost use Prim.Native.Nat.{_+_, _*_, _≤_, _<_};
 ghost use lib.ListN.{length};
 ghost use Rattle.wire.specs.Bytes.{part, blank};
 ghost use Rattle.records.specs.Records.{rising as ordered, records};
-ghost use Rattle.home.specs.Capacities.{cells as cellsOf};
+ghost use Rattle.home.specs.Capacities.{capacity as capacityOf, under as underOf, cells as cellsOf, table};
 ghost use Rattle.home.specs.Bytes.{cellAt};
 ghost use Rattle.home.specs.Sound.{sized as sizedOf, sound as isSound};
 ghost use Rattle.sound.specs.Checks.{blockFine, blocksFine, zoneFine, endAt, zonesFine, manyIn, tagsFine};
@@ -34,21 +35,28 @@ fn rising(home: &[u8], at: usize, n: usize) -> bool
     records::rising(&home[at..end])
 }
 
-// A block at cell p in zone c.
-fn block_fine(home: &[u8], c: usize, p: usize) -> bool
-    requires { ⌜ (c < 30) × (cellAt p + 8 * cellsOf c ≤ length (now home)) ⌝ }
+// What the class below c has room for.
+fn under(c: usize) -> usize
+    requires { ⌜ c < 30 ⌝ }
+    ensures { λ r. ⌜ r ≡ underOf c ⌝ }
+{
+    if c == 0 {
+        return 0;
+    }
+    capacity(c - 1)
+}
+
+// A block at cell p in zone c, whose blocks have more than `low` records, and at most `room`.
+fn block_fine(home: &[u8], c: usize, low: usize, room: usize, p: usize) -> bool
+    requires { ⌜ (c < 30) × (low ≡ underOf c) × (room ≡ capacityOf c) × (cellAt p + 8 * cellsOf c ≤ length (now home)) ⌝ }
     ensures { λ r. ⌜ r ≡ blockFine (now (home .entry)) c p ⌝ }
 {
-    let room = capacity(c);
     let at = 1664 + 8 * p;
     let n = wire::get16(home, at + 4);
-    if n == 0 {
+    if n <= low {
         return false;
     }
-    if 990 <= n {
-        return false;
-    }
-    if class_of(n) != c {
+    if room < n {
         return false;
     }
     if wire::get16(home, at + 6) != 0 {
@@ -65,11 +73,13 @@ fn blocks_fine(home: &[u8], c: usize, p: usize, n: usize) -> bool
     requires { ⌜ (c < 30) × (cellAt (p + n * cellsOf c) ≤ length (now home)) ⌝ }
     ensures { λ r. ⌜ r ≡ blocksFine (now (home .entry)) c p n ⌝ }
 {
-    let size = cells(c);
+    let low = under(c);
+    let room = capacity(c);
+    let size = room + 1;
     let mut at = p;
     let mut left = n;
     while 0 < left {
-        if !block_fine(home, c, at) {
+        if !block_fine(home, c, low, room, at) {
             return false;
         }
         at += size;
@@ -148,8 +158,8 @@ fn blocks_in(home: &[u8]) -> usize
 }
 
 // Whether p is a block's first cell. The block there gives its class, so that one zone is looked at.
-fn leads_at(home: &[u8], area: usize, p: usize) -> bool
-    requires { ⌜ cellAt area ≤ length (now home) ⌝ }
+fn leads_at(home: &[u8], classes: &[u8], area: usize, p: usize) -> bool
+    requires { ⌜ (cellAt area ≤ length (now home)) × (now classes ≡ table) ⌝ }
     ensures { λ r. ⌜ r ≡ leadsAt (now (home .entry)) area p ⌝ }
 {
     if area <= p {
@@ -159,7 +169,7 @@ fn leads_at(home: &[u8], area: usize, p: usize) -> bool
     if 990 <= n {
         return false;
     }
-    let c = class_of(n);
+    let c = class_in(classes, n);
     let first = zone_first(home, c);
     let many = zone_count(home, c);
     let size = cells(c);
@@ -173,8 +183,8 @@ fn leads_at(home: &[u8], area: usize, p: usize) -> bool
 }
 
 // The i-th entry: no tag below `low`, and a block with its tag.
-fn entry_fine(home: &[u8], area: usize, low: u64, i: usize) -> bool
-    requires { ⌜ (i < 256) × (cellAt area ≤ length (now home)) ⌝ }
+fn entry_fine(home: &[u8], classes: &[u8], area: usize, low: u64, i: usize) -> bool
+    requires { ⌜ (i < 256) × (cellAt area ≤ length (now home)) × (now classes ≡ table) ⌝ }
     ensures { λ r. ⌜ r ≡ entryFine (now (home .entry)) area low i ⌝ }
 {
     let tag = wire::get32(home, 128 + 6 * i);
@@ -182,21 +192,21 @@ fn entry_fine(home: &[u8], area: usize, low: u64, i: usize) -> bool
     if (tag as u64) < low {
         return false;
     }
-    if !leads_at(home, area, p) {
+    if !leads_at(home, classes, area, p) {
         return false;
     }
     wire::get32(home, 1664 + 8 * p) == tag
 }
 
 // The dictionary's n entries.
-fn tags_fine(home: &[u8], area: usize, n: usize) -> bool
-    requires { ⌜ (n ≤ 256) × (cellAt area ≤ length (now home)) × (zonesFine (now home) area 0 0 30 ≡ true) ⌝ }
+fn tags_fine(home: &[u8], classes: &[u8], area: usize, n: usize) -> bool
+    requires { ⌜ (n ≤ 256) × (cellAt area ≤ length (now home)) × (zonesFine (now home) area 0 0 30 ≡ true) × (now classes ≡ table) ⌝ }
     ensures { λ r. ⌜ r ≡ tagsFine (now (home .entry)) 0 0 n ⌝ }
 {
     let mut low: u64 = 0;
     let mut i = 0;
     while i < n {
-        if !entry_fine(home, area, low, i) {
+        if !entry_fine(home, classes, area, low, i) {
             return false;
         }
         low = wire::get32(home, 128 + 6 * i) as u64 + 1;
@@ -238,7 +248,8 @@ pub fn sound(home: &[u8]) -> bool
     if blocks_in(home) != n {
         return false;
     }
-    if !tags_fine(home, area, n) {
+    let classes = class_table();
+    if !tags_fine(home, &classes, area, n) {
         return false;
     }
     zeros(home, 128 + 6 * n, 1536 - 6 * n)

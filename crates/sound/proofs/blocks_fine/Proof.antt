@@ -3,7 +3,8 @@ use native.Mathlib.Omega.{arith}
 use borrow.Author.Tests.{not-true, not-false}
 use Prim.Native.Nat.{_+_, _*_, _≤_}
 use lib.ListN.{length}
-use Rattle.home.specs.Capacities.{cells}
+use Rattle.home.specs.Capacities.{capacity, under, cells}
+use Rattle.home.specs.CapacitiesLaws.{cells-is}
 use Rattle.home.specs.Bytes.{cellAt}
 use Rattle.sound.specs.Checks.{blocksFine}
 use Rattle.sound.specs.CheckTurns.{times-turn, blocks-turn, blocks-stop, blocks-end}
@@ -12,28 +13,34 @@ use Rattle.sound.proofs.blocks_fine.Statement.{statement}
 use Rattle.sound.proofs.blocks_fine.Tie as tie
 
 abbrev Inv-loop : tie.InvT-loop
-Inv-loop home c p n size at₀ left₀ at left = (cellAt (at + left * cells c) ≤ length home) × (blocksFine home c at left ≡ blocksFine home c p n) × (size ≡ cells c)
+Inv-loop home c p n low room size at₀ left₀ at left = (cellAt (at + left * cells c) ≤ length home) × (blocksFine home c at left ≡ blocksFine home c p n) × (low ≡ under c) × (room ≡ capacity c) × (size ≡ cells c)
 
 abbrev μ-loop : tie.MeasureT-loop
-μ-loop home c p n size at₀ left₀ at left = left
+μ-loop home c p n low room size at₀ left₀ at left = left
 
-cells-requires : tie.Need-cells-requires Inv-loop μ-loop
-cells-requires c κs = search needs
+under-requires : tie.Need-under-requires Inv-loop μ-loop
+under-requires c κs = search needs
+
+capacity-requires : tie.Need-capacity-requires Inv-loop μ-loop
+capacity-requires c κs = search needs
+
+add-size : tie.Need-add-size Inv-loop μ-loop
+add-size c = search needs
 
 loop-holds : tie.Need-loop-holds Inv-loop μ-loop
-loop-holds c = (c .before .before .pre .1, refl, c .cells .ensures .0)
+loop-holds c = (c .before .before .before .pre .1, refl, c .before .under .ensures, c .capacity .ensures .0, omega (arith, cells-is (c .before .before .before .args .c)))
 
 block-fine-requires : tie.Need-block-fine-requires Inv-loop μ-loop
-block-fine-requires c κs = let e = times-turn (c .before .loop .left) (cells (c .before .before .before .before .args .c)) (search needs) in (c .before .before .before .before .pre .0, omega arith)
+block-fine-requires c κs = let e = times-turn (c .before .loop .left) (cells (c .before .before .before .before .before .args .c)) (search needs) in (c .before .before .before .before .before .pre .0, c .before .loop .inv .2, c .before .loop .inv .3, omega arith)
 
 returns : tie.Need-returns Inv-loop μ-loop
 returns c =
-    let a = c .before .before .before .before .before .before .args in
+    let a = c .before .before .before .before .before .before .before .args in
     let l = c .before .before .before .loop in
     blocks-stop (a .home .now) (a .c) (l .at) (l .left) (search needs) (sym (c .before .block-fine .ensures) ∙ not-true _ (c .if1 .taken)) ∙ l .inv .1
 
 add-at : tie.Need-add-at Inv-loop μ-loop
-add-at c = let e = times-turn (c .before .before .before .loop .left) (cells (c .before .before .before .before .before .before .args .c)) (search needs) in omega arith
+add-at c = let e = times-turn (c .before .before .before .loop .left) (cells (c .before .before .before .before .before .before .before .args .c)) (search needs) in omega arith
 
 sub-left : tie.Need-sub-left Inv-loop μ-loop
 sub-left c = search needs
@@ -43,14 +50,14 @@ loop-less c = search needs
 
 loop-again : tie.Need-loop-again Inv-loop μ-loop
 loop-again c =
-    let a = c .before .before .before .before .before .before .args in
+    let a = c .before .before .before .before .before .before .before .args in
     let l = c .before .before .before .loop in
     let e = times-turn (l .left) (cells (a .c)) (search needs) in
-    (omega arith, rw (l .inv .2) (blocks-turn (a .home .now) (a .c) (l .at) (l .left) (search needs) (sym (c .before .block-fine .ensures) ∙ not-false _ (c .if1 .left)) ∙ l .inv .1), l .inv .2)
+    (omega arith, rw (l .inv .4) (blocks-turn (a .home .now) (a .c) (l .at) (l .left) (search needs) (sym (c .before .block-fine .ensures) ∙ not-false _ (c .if1 .left)) ∙ l .inv .1), l .inv .2, l .inv .3, l .inv .4)
 
 returns-2 : tie.Need-returns-2 Inv-loop μ-loop
 returns-2 c =
-    let a = c .before .before .before .before .args in
+    let a = c .before .before .before .before .before .args in
     let l = c .before .loop in
     blocks-end (a .home .now) (a .c) (l .at) (l .left) (search needs) ∙ l .inv .1
 
@@ -60,7 +67,9 @@ blocks-fine-spec =
     (tie.spec
     Inv-loop
     μ-loop
-    cells-requires
+    under-requires
+    capacity-requires
+    add-size
     loop-holds
     block-fine-requires
     returns

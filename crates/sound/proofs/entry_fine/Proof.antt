@@ -33,17 +33,17 @@ cast-if1 c = search needs
 
 returns : tie.Need-returns
 returns c =
-    let a = c .before .before .before .before .args in
+    let a = c .before .before .before .before .before .args in
     let n = c .before .get16 in
     let t = c .before .before .get32 in
     entry-low (a .home .now) (a .area) (a .low) (a .i) (t .result) (n .result) (t .ensures) (n .ensures .0) (search needs)
 
 leads-at-requires : tie.Need-leads-at-requires
-leads-at-requires c κs = search needs
+leads-at-requires c κs = (c .before .before .before .before .before .pre .1, c .before .before .before .before .before .pre .2)
 
 returns-2 : tie.Need-returns-2
 returns-2 c =
-    let a = c .before .before .before .before .before .before .args in
+    let a = c .before .before .before .before .before .before .before .args in
     let n = c .before .before .before .get16 in
     let t = c .before .before .before .before .get32 in
     entry-astray (a .home .now) (a .area) (a .low) (a .i) (t .result) (n .result) (t .ensures) (n .ensures .0) (search needs) (sym (c .before .leads-at .ensures) ∙ not-true _ (c .if2 .taken))
@@ -56,14 +56,14 @@ add-get32-2 c = search needs
 
 get32-requires-2 : tie.Need-get32-requires-2
 get32-requires-2 c κs =
-    let a = c .before .before .before .before .before .before .args in
+    let a = c .before .before .before .before .before .before .before .args in
     let n = c .before .before .before .get16 in
     let t = c .before .before .before .before .get32 in
     omega (arith, leads-inside (a .home .now) (a .area) (a .low) (a .i) (t .result) (n .result) (t .ensures) (n .ensures .0) (sym (c .before .leads-at .ensures) ∙ not-false _ (c .if2 .left)))
 
 returns-3 : tie.Need-returns-3
 returns-3 c =
-    let a = c .before .before .before .before .before .before .before .args in
+    let a = c .before .before .before .before .before .before .before .before .args in
     let n = c .before .before .before .before .get16 in
     let t = c .before .before .before .before .before .get32 in
     ap (λ x. eqb x (t .result)) (c .get322 .ensures) ∙ entry-rest (a .home .now) (a .area) (a .low) (a .i) (t .result) (n .result) (t .ensures) (n .ensures .0) (search needs) (sym (c .before .before .leads-at .ensures) ∙ not-false _ (c .before .if2 .left))

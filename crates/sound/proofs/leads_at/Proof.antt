@@ -9,7 +9,7 @@ use Rattle.sound.proofs.leads_at.Tie as tie
 
 returns : tie.Need-returns
 returns c =
-    let a = c .before .before .args in
+    let a = c .before .before .before .args in
     leads-beyond (a .home .now) (a .area) (a .p) (countAt (a .home .now) (a .p)) refl (search needs)
 
 mul-get16 : tie.Need-mul-get16
@@ -26,26 +26,26 @@ get16-requires c κs = search needs
 
 returns-2 : tie.Need-returns-2
 returns-2 c =
-    let a = c .before .before .before .before .args in
+    let a = c .before .before .before .before .before .args in
     let n = c .before .get16 in
     leads-much (a .home .now) (a .area) (a .p) (n .result) (n .ensures .0) (search needs) (search needs)
 
-class-of-requires : tie.Need-class-of-requires
-class-of-requires c κs = search needs
+class-in-requires : tie.Need-class-in-requires
+class-in-requires c κs = (search needs, c .before .before .before .before .before .pre .1)
 
 zone-first-requires : tie.Need-zone-first-requires
-zone-first-requires c κs = omega (arith, c .class-of .ensures, class-below (c .before .before .get16 .result) (search needs))
+zone-first-requires c κs = omega (arith, c .class-in .ensures, class-below (c .before .before .get16 .result) (search needs))
 
 zone-count-requires : tie.Need-zone-count-requires
-zone-count-requires c κs = omega (arith, c .before .class-of .ensures, class-below (c .before .before .before .get16 .result) (search needs))
+zone-count-requires c κs = omega (arith, c .before .class-in .ensures, class-below (c .before .before .before .get16 .result) (search needs))
 
 cells-requires : tie.Need-cells-requires
-cells-requires c κs = omega (arith, c .before .before .class-of .ensures, class-below (c .before .before .before .before .get16 .result) (search needs))
+cells-requires c κs = omega (arith, c .before .before .class-in .ensures, class-below (c .before .before .before .before .get16 .result) (search needs))
 
 returns-3 : tie.Need-returns-3
 returns-3 c =
-    let a = c .before .before .before .before .before .before .before .before .before .args in
-    let d = c .before .before .before .before .class-of in
+    let a = c .before .before .before .before .before .before .before .before .before .before .args in
+    let d = c .before .before .before .before .class-in in
     let f = c .before .before .before .zone-first in
     let m = c .before .before .zone-count in
     let n = c .before .before .before .before .before .before .get16 in
@@ -60,8 +60,8 @@ add-if4 c = omega (arith, zone-fits (c .before .before .zone-count .result) (c .
 
 returns-4 : tie.Need-returns-4
 returns-4 c =
-    let a = c .before .before .before .before .before .before .before .before .before .before .args in
-    let d = c .before .before .before .before .before .class-of in
+    let a = c .before .before .before .before .before .before .before .before .before .before .before .args in
+    let d = c .before .before .before .before .before .class-in in
     let f = c .before .before .before .before .zone-first in
     let m = c .before .before .before .zone-count in
     let n = c .before .before .before .before .before .before .before .get16 in
@@ -73,8 +73,8 @@ rem-result c = search needs
 
 returns-5 : tie.Need-returns-5
 returns-5 c =
-    let a = c .before .before .before .before .before .before .before .before .before .before .args in
-    let d = c .before .before .before .before .before .class-of in
+    let a = c .before .before .before .before .before .before .before .before .before .before .before .args in
+    let d = c .before .before .before .before .before .class-in in
     let f = c .before .before .before .before .zone-first in
     let m = c .before .before .before .zone-count in
     let n = c .before .before .before .before .before .before .before .get16 in
@@ -91,7 +91,7 @@ leads-at-spec =
     add-get16-2
     get16-requires
     returns-2
-    class-of-requires
+    class-in-requires
     zone-first-requires
     zone-count-requires
     cells-requires

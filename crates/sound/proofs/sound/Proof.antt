@@ -66,17 +66,23 @@ returns-5 c =
     let n = c .before .before .before .before .before .before .before .get16 in
     checked-many (a .home .now) (n .result) (n .ensures .0) (sym (c .before .before .before .before .before .before .before .before .before .sized .ensures) ∙ not-false _ (c .before .before .before .before .before .before .before .before .if1 .left)) (search needs) (sym (c .before .before .before .before .before .zeros .ensures) ∙ not-false _ (c .before .before .before .before .if3 .left)) (m .result) (m .ensures) (sym (c .before .before .before .zones-fine .ensures) ∙ not-false _ (c .before .before .if4 .left)) (c .if5 .taken) ∙ checked-is (a .home .now) (λ i. omega (arith, c .before .before .before .before .before .before .before .before .before .before .shared-slice-known .given i))
 
+class-table-requires : tie.Need-class-table-requires
+class-table-requires c κs = search needs
+
+slice-aggregate-tags-fine : tie.Need-slice-aggregate-tags-fine
+slice-aggregate-tags-fine c = search needs
+
 tags-fine-requires : tie.Need-tags-fine-requires
 tags-fine-requires c κs =
-    let l = t-sized (c .before .before .before .before .before .before .before .before .before .before .before .args .home .now) .says (sym (c .before .before .before .before .before .before .before .before .before .sized .ensures) ∙ not-false _ (c .before .before .before .before .before .before .before .before .if1 .left)) in
-    (omega arith, omega arith, (sym (c .before .before .before .zones-fine .ensures) ∙ not-false _ (c .before .before .if4 .left)))
+    let l = t-sized (c .before .before .before .before .before .before .before .before .before .before .before .before .before .args .home .now) .says (sym (c .before .before .before .before .before .before .before .before .before .before .before .sized .ensures) ∙ not-false _ (c .before .before .before .before .before .before .before .before .before .before .if1 .left)) in
+    (omega arith, omega arith, (sym (c .before .before .before .before .before .zones-fine .ensures) ∙ not-false _ (c .before .before .before .before .if4 .left)), c .before .class-table .ensures)
 
 returns-6 : tie.Need-returns-6
 returns-6 c =
-    let a = c .before .before .before .before .before .before .before .before .before .before .before .before .before .args in
-    let m = c .before .before .before .blocks-in in
-    let n = c .before .before .before .before .before .before .before .before .before .get16 in
-    checked-tags (a .home .now) (n .result) (n .ensures .0) (sym (c .before .before .before .before .before .before .before .before .before .before .before .sized .ensures) ∙ not-false _ (c .before .before .before .before .before .before .before .before .before .before .if1 .left)) (search needs) (sym (c .before .before .before .before .before .before .before .zeros .ensures) ∙ not-false _ (c .before .before .before .before .before .before .if3 .left)) (m .result) (m .ensures) (sym (c .before .before .before .before .before .zones-fine .ensures) ∙ not-false _ (c .before .before .before .before .if4 .left)) (c .before .before .if5 .left) (sym (c .before .tags-fine .ensures) ∙ not-true _ (c .if6 .taken)) ∙ checked-is (a .home .now) (λ i. omega (arith, c .before .before .before .before .before .before .before .before .before .before .before .before .shared-slice-known .given i))
+    let a = c .before .before .before .before .before .before .before .before .before .before .before .before .before .before .before .args in
+    let m = c .before .before .before .before .before .blocks-in in
+    let n = c .before .before .before .before .before .before .before .before .before .before .before .get16 in
+    checked-tags (a .home .now) (n .result) (n .ensures .0) (sym (c .before .before .before .before .before .before .before .before .before .before .before .before .before .sized .ensures) ∙ not-false _ (c .before .before .before .before .before .before .before .before .before .before .before .before .if1 .left)) (search needs) (sym (c .before .before .before .before .before .before .before .before .before .zeros .ensures) ∙ not-false _ (c .before .before .before .before .before .before .before .before .if3 .left)) (m .result) (m .ensures) (sym (c .before .before .before .before .before .before .before .zones-fine .ensures) ∙ not-false _ (c .before .before .before .before .before .before .if4 .left)) (c .before .before .before .before .if5 .left) (sym (c .before .tags-fine .ensures) ∙ not-true _ (c .if6 .taken)) ∙ checked-is (a .home .now) (λ i. omega (arith, c .before .before .before .before .before .before .before .before .before .before .before .before .before .before .shared-slice-known .given i))
 
 mul-zeros : tie.Need-mul-zeros
 mul-zeros c = search needs
@@ -92,15 +98,15 @@ sub-zeros c = search needs
 
 zeros-requires-2 : tie.Need-zeros-requires-2
 zeros-requires-2 c κs =
-    let l = t-sized (c .before .before .before .before .before .before .before .before .before .before .before .before .before .args .home .now) .says (sym (c .before .before .before .before .before .before .before .before .before .before .before .sized .ensures) ∙ not-false _ (c .before .before .before .before .before .before .before .before .before .before .if1 .left)) in
+    let l = t-sized (c .before .before .before .before .before .before .before .before .before .before .before .before .before .before .before .args .home .now) .says (sym (c .before .before .before .before .before .before .before .before .before .before .before .before .before .sized .ensures) ∙ not-false _ (c .before .before .before .before .before .before .before .before .before .before .before .before .if1 .left)) in
     omega arith
 
 returns-7 : tie.Need-returns-7
 returns-7 c =
-    let a = c .before .before .before .before .before .before .before .before .before .before .before .before .before .before .args in
-    let m = c .before .before .before .before .blocks-in in
-    let n = c .before .before .before .before .before .before .before .before .before .before .get16 in
-    c .zeros2 .ensures ∙ checked-rest (a .home .now) (n .result) (n .ensures .0) (sym (c .before .before .before .before .before .before .before .before .before .before .before .before .sized .ensures) ∙ not-false _ (c .before .before .before .before .before .before .before .before .before .before .before .if1 .left)) (search needs) (sym (c .before .before .before .before .before .before .before .before .zeros .ensures) ∙ not-false _ (c .before .before .before .before .before .before .before .if3 .left)) (m .result) (m .ensures) (sym (c .before .before .before .before .before .before .zones-fine .ensures) ∙ not-false _ (c .before .before .before .before .before .if4 .left)) (c .before .before .before .if5 .left) (sym (c .before .before .tags-fine .ensures) ∙ not-false _ (c .before .if6 .left)) ∙ checked-is (a .home .now) (λ i. omega (arith, c .before .before .before .before .before .before .before .before .before .before .before .before .before .shared-slice-known .given i))
+    let a = c .before .before .before .before .before .before .before .before .before .before .before .before .before .before .before .before .args in
+    let m = c .before .before .before .before .before .before .blocks-in in
+    let n = c .before .before .before .before .before .before .before .before .before .before .before .before .get16 in
+    c .zeros2 .ensures ∙ checked-rest (a .home .now) (n .result) (n .ensures .0) (sym (c .before .before .before .before .before .before .before .before .before .before .before .before .before .before .sized .ensures) ∙ not-false _ (c .before .before .before .before .before .before .before .before .before .before .before .before .before .if1 .left)) (search needs) (sym (c .before .before .before .before .before .before .before .before .before .before .zeros .ensures) ∙ not-false _ (c .before .before .before .before .before .before .before .before .before .if3 .left)) (m .result) (m .ensures) (sym (c .before .before .before .before .before .before .before .before .zones-fine .ensures) ∙ not-false _ (c .before .before .before .before .before .before .before .if4 .left)) (c .before .before .before .before .before .if5 .left) (sym (c .before .before .tags-fine .ensures) ∙ not-false _ (c .before .if6 .left)) ∙ checked-is (a .home .now) (λ i. omega (arith, c .before .before .before .before .before .before .before .before .before .before .before .before .before .before .before .shared-slice-known .given i))
 
 pub sound-spec : {M : Type 1} → statement M
 sound-spec =
@@ -118,6 +124,8 @@ sound-spec =
     returns-4
     blocks-in-requires
     returns-5
+    class-table-requires
+    slice-aggregate-tags-fine
     tags-fine-requires
     returns-6
     mul-zeros

@@ -10,22 +10,22 @@ use Rattle.sound.proofs.tags_fine.Statement.{statement}
 use Rattle.sound.proofs.tags_fine.Tie as tie
 
 abbrev Inv-loop : tie.InvT-loop
-Inv-loop home area n low₀ i₀ low i = (i ≤ n) × (tagsFine home low i (n - i) ≡ tagsFine home 0 0 n)
+Inv-loop home classes area n low₀ i₀ low i = (i ≤ n) × (tagsFine home low i (n - i) ≡ tagsFine home 0 0 n)
 
 abbrev μ-loop : tie.MeasureT-loop
-μ-loop home area n low₀ i₀ low i = n - i
+μ-loop home classes area n low₀ i₀ low i = n - i
 
 loop-holds : tie.Need-loop-holds Inv-loop μ-loop
 loop-holds c = (omega arith, rw sub-zero)
 
 entry-fine-requires : tie.Need-entry-fine-requires Inv-loop μ-loop
-entry-fine-requires c κs = search needs
+entry-fine-requires c κs = (search needs, c .before .before .before .before .pre .1, c .before .before .before .before .pre .3)
 
 returns : tie.Need-returns Inv-loop μ-loop
 returns c =
-    let a = c .before .before .before .before .before .args in
+    let a = c .before .before .before .before .before .before .args in
     let l = c .before .before .before .loop in
-    tags-stop (a .home .now) (a .area) (l .low) (l .i) (a .n) (c .before .before .before .before .before .pre .2) (search needs) (sym (c .before .entry-fine .ensures) ∙ not-true _ (c .if1 .taken)) ∙ l .inv .1
+    tags-stop (a .home .now) (a .area) (l .low) (l .i) (a .n) (c .before .before .before .before .before .before .pre .2) (search needs) (sym (c .before .entry-fine .ensures) ∙ not-true _ (c .if1 .taken)) ∙ l .inv .1
 
 mul-get32 : tie.Need-mul-get32 Inv-loop μ-loop
 mul-get32 c = search needs
@@ -50,12 +50,12 @@ loop-less c = search needs
 
 loop-again : tie.Need-loop-again Inv-loop μ-loop
 loop-again c =
-    let a = c .before .before .before .before .before .before .args in
+    let a = c .before .before .before .before .before .before .before .args in
     let l = c .before .before .before .before .loop in
-    (omega arith, rw (c .get32 .ensures) (tags-turn (a .home .now) (a .area) (l .low) (l .i) (a .n) (c .before .before .before .before .before .before .pre .2) (search needs) (sym (c .before .before .entry-fine .ensures) ∙ not-false _ (c .before .if1 .left)) ∙ l .inv .1))
+    (omega arith, rw (c .get32 .ensures) (tags-turn (a .home .now) (a .area) (l .low) (l .i) (a .n) (c .before .before .before .before .before .before .before .pre .2) (search needs) (sym (c .before .before .entry-fine .ensures) ∙ not-false _ (c .before .if1 .left)) ∙ l .inv .1))
 
 returns-2 : tie.Need-returns-2 Inv-loop μ-loop
-returns-2 c = tags-end (c .before .before .before .args .home .now) (c .before .loop .low) (c .before .loop .i) (c .before .before .before .args .n) (search needs) ∙ c .before .loop .inv .1
+returns-2 c = tags-end (c .before .before .before .before .args .home .now) (c .before .loop .low) (c .before .loop .i) (c .before .before .before .before .args .n) (search needs) ∙ c .before .loop .inv .1
 
 pub tags-fine-spec : {M : Type 1} → statement M
 tags-fine-spec =
