@@ -1,7 +1,8 @@
-/* Calls every function of cix.h: on no bytes at all, on bytes of a wrong length, and through the
- * specification's bench cases. */
+/* Calls every function of cix.h: on no bytes at all, with lengths that are not true, and through
+ * the specification's bench cases. */
 #include "cix.h"
 #include <stdio.h>
+#include <stdlib.h>
 #include <string.h>
 
 static int failed, checked;
@@ -65,6 +66,33 @@ static void short_lengths(void) {
         if (n != CIX_SPACE_BYTES(1))
             REFUSED(cix_put(space, n, 7, 0, 0, 0, 0), CIX_SPACE_LENGTH);
     }
+}
+
+/* Lengths above the true ones that no image or workspace has: refused by the length alone, or by the
+ * head's first page. The buffers end where they end, so that valgrind sees a byte read behind them. */
+static void long_lengths(void) {
+    static const size_t more[] = {1, 63, 65, 1u << 20, SIZE_MAX / 2 - sizeof image, SIZE_MAX - sizeof image};
+    uint8_t *i = malloc(sizeof image), *s = malloc(sizeof space), *out = malloc(8);
+    memcpy(i, image, sizeof image);
+    memcpy(s, space, sizeof space);
+    for (size_t j = 0; j < sizeof more / sizeof *more; j++) {
+        size_t n = sizeof image + more[j], m = sizeof space + more[j];
+        REFUSED(cix_format(i, n, ENTRIES, PAGES, CIX_ALL), CIX_SIZES);
+        REFUSED(cix_begin(i, n, s, sizeof space), CIX_BAD_HEAD);
+        REFUSED(cix_begin(i, sizeof image, s, m), CIX_SPACE_LENGTH);
+        REFUSED(cix_commit(i, n, s, sizeof space, CIX_ALL), CIX_BAD_HEAD);
+        REFUSED(cix_commit(i, sizeof image, s, m, CIX_ALL), CIX_SPACE_LENGTH);
+        REFUSED(cix_recover(i, n, CIX_ALL), CIX_BAD_HEAD);
+        REFUSED(cix_count_image(i, n, 7), CIX_BAD_HEAD);
+        DONE(cix_show_image(i, n, 7), 0);
+        REFUSED(cix_either_image(i, n, 7, 9, out, 8), CIX_BAD_HEAD);
+        REFUSED(cix_put(s, m, 7, 0, 0, 0, 0), CIX_SPACE_LENGTH);
+        REFUSED(cix_count_space(s, m, 7), CIX_SPACE_LENGTH);
+        DONE(cix_either_space(s, sizeof space, 7, 9, out, SIZE_MAX - j), 0);
+    }
+    free(i);
+    free(s);
+    free(out);
 }
 
 /* Bench cases 1 to 6. */
@@ -136,6 +164,7 @@ int main(void) {
     DONE(cix_format(IMAGE, ENTRIES, PAGES, CIX_ALL), sizeof image + 1);
     DONE(cix_begin(IMAGE, SPACE), 0);
     short_lengths();
+    long_lengths();
     blocks();
     merges();
     cuts();
