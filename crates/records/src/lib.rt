@@ -61,13 +61,13 @@ fn half(s: &[u8], at: usize) -> u64
     a * 16777216 + b * 65536 + c * 256 + d
 }
 
-// The key of the i-th record: its 8 bytes, read at once, without the last.
+// The key of the i-th record.
 pub fn key_at(s: &[u8], i: usize) -> u64
     requires { ⌜ 8 * i + 8 ≤ length (now s) ⌝ }
     ensures { λ r. ⌜ (r ≡ key (recordAt (now (s .entry)) (8 * i))) × (r < 72057594037927936) ⌝ }
 {
     let at = 8 * i;
-    (half(s, at) * 4294967296 + half(s, at + 4)) / 256
+    half(s, at) * 16777216 + half(s, at + 4) / 256
 }
 
 // The i-th record.

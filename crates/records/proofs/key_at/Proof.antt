@@ -1,5 +1,4 @@
-use mathlib.Core.Path.{_∙_}
-use Rattle.records.specs.Cells.{halves, key-read}
+use Rattle.records.specs.Cells.{key-read}
 use native.Mathlib.Omega.{arith}
 use borrow.Author.Needs.{needs}
 use Rattle.records.proofs.key_at.Statement.{statement}
@@ -24,7 +23,7 @@ add-result : tie.Need-add-result
 add-result c = search needs
 
 returns : tie.Need-returns
-returns c = (rw (c .before .half .ensures .0, c .half2 .ensures .0) (halves _ _ ∙ key-read _ _ (c .half2 .ensures .2)), omega arith)
+returns c = (rw (c .before .half .ensures .0, c .half2 .ensures .0) (key-read _ _ (c .half2 .ensures .2)), omega arith)
 
 pub key-at-spec : {M : Type 1} → statement M
 key-at-spec =
