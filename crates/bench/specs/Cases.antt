@@ -9,12 +9,14 @@ use Rattle.wire.specs.Bytes.{pick, part, over, get16, get32, bytes16, bytes32, 
 use Rattle.wire.specs.Cases.{by-test}
 use Rattle.records.specs.declared.Record.{Record}
 use Rattle.records.specs.Records.{key, look, insert, remove, risingFrom, bytesOf, recordAt, records}
+use Rattle.redo.specs.Store.{apply, run}
+use Rattle.redo.specs.Image.{letters, home, inRange, imageLength, headOk, headPage, emptyImage}
+use Rattle.redo.specs.Entry.{Entry, entry, entries, rising, changes, logged, replay}
+use Rattle.redo.specs.Stores.{clearMark, recoverStores, logStores, commitStores}
 use Rattle.log.specs.declared.Outcome.{Outcome}
 use Rattle.log.specs.declared.Outcome.the-variants.{Done, Cut, Refused as CommitRefused}
-use Rattle.log.specs.Store.{apply, run}
-use Rattle.log.specs.Image.{letters, home, inRange, imageLength, headOk, headOf}
-use Rattle.log.specs.Entry.{Entry, entry, entries, rising, changes, logged, replay}
-use Rattle.log.specs.Calls.{Plan, answer, after, headPage, emptyImage, formatPlan, clearMark, recoverStores, logOk, committedPlan, recoverPlan, logStores, commitStores, changed, clearPlan, commitPlan}
+use Rattle.log.specs.Head.{headOf}
+use Rattle.log.specs.Calls.{Plan, answer, after, formatPlan, logOk, committedPlan, recoverPlan, changed, clearPlan, commitPlan}
 use Rattle.log.specs.FormatLaws.{format-done}
 use Rattle.home.specs.Capacities.{capacity, cells, classOf}
 use Rattle.home.specs.Zones.{find, blocks, hasTag, rewritten, place, takeOut, change}

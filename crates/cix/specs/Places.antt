@@ -3,7 +3,7 @@ use mathlib.Core.List.{List}
 use Prim.Native.Nat.{ℕ, _+_, _*_}
 use lib.ListN.{length}
 use Rattle.records.specs.Records.{encode}
-use Rattle.log.specs.Image.{home, homeAt}
+use Rattle.redo.specs.Image.{home, homeAt}
 use Rattle.home.specs.declared.lookup.Slot.{Slot}
 use Rattle.home.specs.declared.lookup.Slot.the-variants.{At, Absent}
 use Rattle.home.specs.Bytes.{cellAt, placeAt}

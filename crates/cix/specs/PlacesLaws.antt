@@ -10,8 +10,8 @@ use Rattle.wire.specs.Bytes.{pick, part, Bytes}
 use Rattle.wire.specs.BytesLaws.{part-of}
 use Rattle.records.specs.Records.{encode}
 use Rattle.records.specs.Edits.{length-encode}
-use Rattle.log.specs.Image.{home, homeAt, headOk}
-use Rattle.log.specs.ImageLaws.{Right, head-right, length-home}
+use Rattle.redo.specs.Image.{home, homeAt, headOk}
+use Rattle.redo.specs.ImageLaws.{Right, head-right, length-home}
 use Rattle.log.specs.Answers.{clear-ok}
 use Rattle.home.specs.declared.lookup.Slot.{Slot}
 use Rattle.home.specs.declared.lookup.Slot.the-variants.{At, Absent}

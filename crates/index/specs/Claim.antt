@@ -9,9 +9,9 @@ use lib.ListN.{length}
 use lib.Dec.{leb, eqb}
 use Rattle.wire.specs.Bytes.{pick}
 use Rattle.wire.specs.All.{All, none, more}
+use Rattle.redo.specs.Image.{capacity, mark, home, headOk}
 use Rattle.log.specs.declared.Outcome.{Outcome}
 use Rattle.log.specs.declared.Outcome.the-variants.{Done, Refused}
-use Rattle.log.specs.Image.{capacity, mark, home, headOk}
 use Rattle.log.specs.Calls.{answer, commitPlan, recoverPlan}
 use Rattle.log.specs.Book.{Call, commit, recover, planOf, Seen, trace, final, Book, start, differing, Verdict, judge, commitNeed, recoverNeed, report, answerTo, foretold, next, bookAfter, leftBy, told, ledger}
 use Rattle.log.specs.Claim.{Claim, claim}

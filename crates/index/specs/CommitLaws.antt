@@ -8,12 +8,13 @@ use lib.ListN.{length}
 use borrow.Author.Tests.{eq-eqb, ne-eqb}
 use Rattle.wire.specs.Bytes.{pick}
 use Rattle.wire.specs.Cases.{by-test}
+use Rattle.redo.specs.Image.{pages, home}
+use Rattle.redo.specs.ImageLaws.{head-right, length-home}
 use Rattle.log.specs.declared.Head.{Head}
 use Rattle.log.specs.declared.Head.the-variants.{Bad, Clear, Committed}
-use Rattle.log.specs.Image.{pages, home, headOf}
-use Rattle.log.specs.ImageLaws.{head-right, length-home}
-use Rattle.log.specs.Answers.{clear-ok}
+use Rattle.log.specs.Head.{headOf}
 use Rattle.log.specs.Calls.{refuse, atHead, clearPlan, commitPlan, anyBytes}
+use Rattle.log.specs.Answers.{clear-ok}
 use Rattle.home.specs.Sound.{sound}
 use Rattle.index.specs.declared.Gate.the-variants.{Open, Shut}
 use Rattle.index.specs.Gates.{byHead, imageGate}

@@ -11,12 +11,15 @@ use Rattle.wire.specs.Cases.{by-test, by-eq, never}
 use Rattle.records.specs.declared.Record.{Record}
 use Rattle.records.specs.Records.{Fits, key, before, risingFrom, rising, insert, remove, amend, encode as recordBytes}
 use Rattle.records.specs.Order.{before-key, rising-parts, rising-at}
+use Rattle.redo.specs.Image.{mark, home, headOk, inRange, imageLength, emptyImage}
+use Rattle.redo.specs.ImageLaws.{in-range, head-same}
 use Rattle.log.specs.declared.Outcome.the-variants.{Done as Committed}
 use Rattle.log.specs.declared.Head.the-variants.{Clear}
-use Rattle.log.specs.Image.{mark, home, headOk, headOf, inRange, imageLength}
-use Rattle.log.specs.ImageLaws.{in-range, head-clear, head-committed, head-other, head-same}
-use Rattle.log.specs.Calls.{answer, after, commitPlan, formatPlan, emptyImage}
+use Rattle.log.specs.Head.{headOf}
+use Rattle.log.specs.HeadLaws.{head-clear, head-committed, head-other}
+use Rattle.log.specs.Calls.{answer, after, commitPlan, formatPlan}
 use Rattle.log.specs.Answers.{clear-ok}
+use Rattle.log.specs.FormatLaws.{format-done, empty-head, empty-mark, empty-home}
 use Rattle.log.specs.Book.{commit, seen, planOf, allowance, final}
 use Rattle.log.specs.Claim.{holds}
 use Rattle.log.specs.Kept.{completed}
@@ -25,7 +28,6 @@ use Rattle.home.specs.Edits.{Edited}
 use Rattle.home.specs.Bytes.{encode}
 use Rattle.home.specs.Perm.{single}
 use Rattle.home.specs.Layout.{Valid}
-use Rattle.log.specs.FormatLaws.{format-done, empty-head, empty-mark, empty-home}
 use Rattle.home.specs.Sound.{sized, sound, listOf}
 use Rattle.home.specs.SoundLaws.{sound-encode, listOf-encode}
 use Rattle.edits.specs.declared.Answer.the-variants.{Count}

@@ -2,9 +2,10 @@
 use Prim.Native.Nat.{ℕ}
 use mathlib.Core.List.{List}
 use Rattle.wire.specs.Bytes.{pick}
+use Rattle.redo.specs.Image.{home}
 use Rattle.log.specs.declared.Head.{Head}
 use Rattle.log.specs.declared.Head.the-variants.{Bad, Clear, Committed}
-use Rattle.log.specs.Image.{home, headOf}
+use Rattle.log.specs.Head.{headOf}
 use Rattle.home.specs.Sound.{sized, sound}
 use Rattle.edits.specs.declared.Answer.{Answer}
 use Rattle.edits.specs.declared.Answer.the-variants.{Refused}

@@ -6,9 +6,10 @@ use native.Mathlib.Omega.{arith}
 use mathlib.Core.List.{List, []}
 use Rattle.wire.specs.Bytes.{pick}
 use Rattle.wire.specs.Cases.{by-test}
+use Rattle.redo.specs.Image.{home, headOk}
 use Rattle.log.specs.declared.Head.{Head}
 use Rattle.log.specs.declared.Head.the-variants.{Bad, Clear, Committed}
-use Rattle.log.specs.Image.{home, headOk, headOf}
+use Rattle.log.specs.Head.{headOf}
 use Rattle.log.specs.Answers.{clear-ok}
 use Rattle.home.specs.Sound.{sized, sound}
 use Rattle.edits.specs.declared.Answer.{Answer}

@@ -7,7 +7,7 @@ use Rattle.wire.specs.Bytes.{pick, over}
 use Rattle.records.specs.declared.Record.{Record}
 use Rattle.records.specs.declared.Merge.{Merge}
 use Rattle.records.specs.Records.{merge, encode}
-use Rattle.log.specs.Image.{home}
+use Rattle.redo.specs.Image.{home}
 use Rattle.home.specs.Sound.{listOf}
 use Rattle.edits.specs.declared.Answer.{Answer}
 use Rattle.edits.specs.declared.Answer.the-variants.{Count, Refused}

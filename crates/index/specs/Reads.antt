@@ -5,7 +5,7 @@ use lib.ListN.{length}
 use lib.Dec.{eqb}
 use Rattle.wire.specs.Bytes.{pick}
 use Rattle.records.specs.Records.{encode}
-use Rattle.log.specs.Image.{home}
+use Rattle.redo.specs.Image.{home}
 use Rattle.home.specs.Sound.{listOf}
 use Rattle.index.specs.declared.Gate.{Gate}
 use Rattle.index.specs.declared.Gate.the-variants.{Open, Shut}

@@ -8,7 +8,7 @@ use Rattle.wire.specs.Bytes.{pick}
 use Rattle.records.specs.declared.Record.{Record}
 use Rattle.records.specs.declared.Merge.{Merge}
 use Rattle.records.specs.Records.{key, look, held, insert}
-use Rattle.log.specs.Image.{capacity, mark, pages, home, headOk, inRange, imageLength}
+use Rattle.redo.specs.Image.{capacity, mark, pages, home, headOk, inRange, imageLength}
 use Rattle.log.specs.Calls.{changed, logOk}
 use Rattle.home.specs.Zones.{blocks, hasTag}
 use Rattle.home.specs.Layout.{change}

@@ -13,8 +13,10 @@ use Rattle.wire.specs.Cases.{by-test}
 use Rattle.records.specs.declared.Record.{Record}
 use Rattle.records.specs.declared.Merge.{Merge}
 use Rattle.records.specs.Records.{key, look, held, insert, remove, amend}
-use Rattle.log.specs.Image.{capacity, mark, pages, homeAt, home, headOk, headOf, inRange, imageLength}
-use Rattle.log.specs.Calls.{refuse, store, clearPlan, commitPlan, commitStores, changed, committedPlan, recoverPlan, recoverStores, logOf, logOk, formatPlan, formatStores}
+use Rattle.redo.specs.Image.{capacity, mark, pages, homeAt, home, headOk, inRange, imageLength}
+use Rattle.redo.specs.Stores.{commitStores, recoverStores, formatStores}
+use Rattle.log.specs.Head.{headOf}
+use Rattle.log.specs.Calls.{refuse, store, clearPlan, commitPlan, changed, committedPlan, recoverPlan, logOf, logOk, formatPlan}
 use Rattle.home.specs.Zones.{Zone, blocks, hasTag, find}
 use Rattle.home.specs.Layout.{change}
 use Rattle.home.specs.Edits.{settle, put, delete, setMinutes, dropTag}

@@ -7,7 +7,7 @@ use records::Record;
 ghost use mathlib.Core.Path.{_≡_};
 ghost use lib.ListN.{length};
 ghost use lib.Dec.{eqb};
-ghost use Rattle.log.specs.Image.{home as homeOf};
+ghost use Rattle.redo.specs.Image.{home as homeOf};
 ghost use Rattle.log.specs.Calls.{answer, after, formatPlan, recoverPlan, commitPlan};
 ghost use Rattle.home.specs.Sound.{sound as isSound};
 ghost use Rattle.records.specs.Records.{key, merge as merged, decode};

@@ -6,7 +6,7 @@ use lib.Dec.{leb}
 use lib.ListN.{length}
 use Rattle.wire.specs.Bytes.{pick, over}
 use Rattle.records.specs.declared.Record.{Record}
-use Rattle.log.specs.Image.{home}
+use Rattle.redo.specs.Image.{home}
 use Rattle.home.specs.Sound.{listOf}
 use Rattle.edits.specs.declared.Answer.{Answer}
 use Rattle.edits.specs.declared.Answer.the-variants.{Count, Refused}

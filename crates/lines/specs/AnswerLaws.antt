@@ -9,7 +9,7 @@ use borrow.Author.Tests.{le-leb, lt-leb}
 use Rattle.wire.specs.Bytes.{over}
 use Rattle.records.specs.Records.{encode as recordBytes, decode as recordsIn}
 use Rattle.records.specs.Edits.{length-encode}
-use Rattle.log.specs.Image.{home}
+use Rattle.redo.specs.Image.{home}
 use Rattle.home.specs.Sound.{sound, listOf}
 use Rattle.edits.specs.declared.Answer.the-variants.{Count}
 use Rattle.index.specs.declared.Gate.{Gate}

@@ -10,15 +10,16 @@ use lib.ListN.{length}
 use borrow.Author.Tests.{eqb-true, leb-true, le-leb}
 use Rattle.wire.specs.Cases.{by-test}
 use Rattle.wire.specs.All.{All}
+use Rattle.redo.specs.Image.{capacity, pages, homeAt, home, headOk}
+use Rattle.redo.specs.ImageLaws.{head-right}
+use Rattle.redo.specs.Entry.{Entry}
+use Rattle.redo.specs.EntryLaws.{Long}
+use Rattle.redo.specs.Stores.{commitStores}
+use Rattle.redo.specs.StoresLaws.{length-commit}
 use Rattle.log.specs.declared.Outcome.the-variants.{Cut}
-use Rattle.log.specs.Image.{capacity, pages, homeAt, home, headOk}
-use Rattle.log.specs.ImageLaws.{head-right}
-use Rattle.log.specs.Entry.{Entry}
-use Rattle.log.specs.EntryLaws.{Long}
-use Rattle.log.specs.CallLaws.{length-commit}
-use Rattle.log.specs.Holds.{long-changes}
+use Rattle.log.specs.Calls.{answer, changed, clearPlan, commitPlan}
 use Rattle.log.specs.Answers.{clear-ok}
-use Rattle.log.specs.Calls.{answer, changed, commitStores, clearPlan, commitPlan}
+use Rattle.log.specs.Holds.{long-changes}
 use Rattle.home.specs.Sound.{sound}
 use Rattle.edits.specs.declared.Answer.{Answer}
 use Rattle.index.specs.declared.Begun.the-variants.{Done as Begin, Unbegun}

@@ -15,7 +15,7 @@ ghost use mathlib.Core.Path.{_≡_};
 ghost use Prim.Native.Nat.{_≤_};
 ghost use lib.ListN.{length};
 ghost use Rattle.wire.specs.Bytes.{over};
-ghost use Rattle.log.specs.Image.{home as homeOf};
+ghost use Rattle.redo.specs.Image.{home as homeOf};
 ghost use Rattle.home.specs.Sound.{listOf};
 ghost use Rattle.index.specs.Reads.{countImage};
 ghost use Rattle.lines.specs.Grammar.{parsed};

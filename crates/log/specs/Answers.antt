@@ -4,25 +4,28 @@ use mathlib.Core.Bool.{true, false}
 use Prim.Native.Nat.{ℕ, _+_, _-_, _*_, _≤_, _<_}
 use native.Mathlib.Omega.{arith}
 use mathlib.Core.List.{List, [], _∷_, _++_}
-use lib.ListN.{length, take, drop, replicate, length-append, length-drop, length-replicate}
+use lib.ListN.{length, take, drop, replicate, length-take, length-append, length-drop, length-replicate}
 use lib.Seq.{take-nil}
 use lib.Dec.{leb}
 use borrow.Author.Tests.{le-leb, lt-leb, eq-eqb, ne-eqb}
-use Rattle.wire.specs.Bytes.{pick, over, bytes16}
-use Rattle.wire.specs.Cases.{by-test, by-lt, and-false}
+use Rattle.wire.specs.Bytes.{pick, bytes16}
+use Rattle.wire.specs.Cases.{by-test, and-false}
 use Rattle.wire.specs.All.{All, all-map}
+use Rattle.redo.specs.Store.{Store, run}
+use Rattle.redo.specs.StoreLaws.{apply-none, length-run, run-append}
+use Rattle.redo.specs.Image.{letters, capacity, recordPages, count, pages, homeAt, home, inRange, imageLength, headOk, headPage, emptyImage}
+use Rattle.redo.specs.ImageLaws.{Right}
+use Rattle.redo.specs.Entry.{entryAt, rising, changes, Loggable}
+use Rattle.redo.specs.EntryLaws.{entries-long, length-entries, rising-below}
+use Rattle.redo.specs.Stores.{formatStores, recoverStores, commitStores}
+use Rattle.redo.specs.StoresLaws.{length-recover}
+use Rattle.redo.specs.Stage.{Stage, stage-more}
+use Rattle.redo.specs.Stages.{commit-needs}
 use Rattle.log.specs.declared.Head.{Head}
 use Rattle.log.specs.declared.Head.the-variants.{Bad, Clear, Committed}
 use Rattle.log.specs.declared.Outcome.the-variants.{Done, Cut, Refused}
-use Rattle.log.specs.Store.{run}
-use Rattle.log.specs.StoreLaws.{apply-none, length-run, run-append}
-use Rattle.log.specs.Image.{letters, capacity, recordPages, count, pages, homeAt, home, inRange, imageLength, headOk, headOf}
-use Rattle.log.specs.ImageLaws.{Right}
-use Rattle.log.specs.Entry.{Entry, entryAt, entries, rising, changes, Replayable, Loggable}
-use Rattle.log.specs.EntryLaws.{Whole, entries-long, length-entries, changes-few, changes-whole, rising-below}
-use Rattle.log.specs.Stage.{Stage, stage-more, stage-empty, stage-whole, stage-answer}
-use Rattle.log.specs.Calls.{Plan, refuse, store, answer, after, atHead, headPage, emptyImage, formatStores, formatPlan, recoverStores, logOf, logOk, logStores, commitStores, changed, committedPlan, clearPlan, anyBytes}
-use Rattle.log.specs.CallLaws.{length-recover, length-commit, commit-is, log-entries}
+use Rattle.log.specs.Head.{headOf}
+use Rattle.log.specs.Calls.{Plan, refuse, store, answer, after, atHead, formatPlan, logOf, logOk, changed, committedPlan, clearPlan, anyBytes}
 
 -- ---- any call
 
@@ -33,6 +36,14 @@ refused-is p r n l e = rw e (refl, refl)
 pub nothing-is : (p : Plan) (n : ℕ) (l : List ℕ) → p ≡ store [] → (Done 0 ≡ answer p n) × (l ≡ after p n l)
 unfolding answer after
 nothing-is p n l e = rw (e, take-nil, le-leb 0 n (omega arith)) (refl, sym (apply-none l))
+
+-- the whole call's stores as one stage: its answer and the bytes it leaves
+pub stage-answer : {n n' m' : ℕ} {ss : List Store} {l l' : List ℕ} (need : ℕ) → length ss ≡ need → Stage n 0 ss l n' m' l'
+    → (pick (leb need n) (Done m') (Cut m') ≡ answer (store ss) n) × (l' ≡ after (store ss) n l)
+unfolding answer after
+stage-answer {n} {ss} need e s =
+    let made : _≡_ {A = ℕ} _ (length (take n ss)) = s .made ∙ rw (length-take n ss) (omega arith) in
+    (rw (← e, made), s .bytes)
 
 -- ---- recover, with the mark set
 
@@ -85,40 +96,10 @@ module _ (l w : List ℕ) where
   unfolding home
   changed-is L R e f = rw (e, f)
 
--- a commit's stores; home stands at h and has q pages, of which k differ from the workspace w
-module _ (l : List ℕ) (h : ℕ) (w : List ℕ) (q k : ℕ) (fit : Loggable l h w q k) (some : 0 < k) where
-  es : List Entry
-  es = changes (drop h l) w q
-
-  whole : All (Whole q) es
-  unfolding es
-  whole = changes-whole (drop h l) w q (omega (arith, fit .1))
-
-  pub commit-answer : {n n' m' : ℕ} {l' : List ℕ} → Stage n 0 (commitStores h (changes (drop h l) w q)) l n' m' l'
-      → (pick (leb (130 * k + 4) n) (Done m') (Cut m') ≡ answer (store (commitStores h (changes (drop h l) w q))) n) × (l' ≡ after (store (commitStores h (changes (drop h l) w q))) n l)
-  unfolding es
-  commit-answer {n' = n'} {m' = m'} {l' = l'} s =
-      rw (fit .2) (stage-answer (130 * length es + 4) (length-commit h es (omega (arith, fit .2)) (all-map (λ e t. t .long) whole)) s)
-
-  -- in two stages: the log was written first
-  module _ {n m n₁ m₁ : ℕ} {l₁ : List ℕ} (few : q < 65536) (s : Stage n m (logStores (changes (drop h l) w q)) l n₁ m₁ l₁) where
-    -- stores are left, so it is whole
-    commit-reads : 0 < n₁ → entries l₁ 0 k ≡ changes (drop h l) w q
-    unfolding es
-    commit-reads g =
-        rw (stage-whole s g, fit .2)
-        (log-entries l (all-map (λ e t. record { below = omega (arith, t .below); long = t .long }) whole) (omega (arith, changes-few (drop h l) w q)) (omega (arith, fit .0, fit .2, fit .3)))
-
-    pub commit-replays : length l₁ ≡ length l → 0 < n₁ → Replayable l₁ h k
-    unfolding es
-    commit-replays f g = (fit .3, rw (commit-reads g) (all-map (λ e t. omega (arith, t .below, fit .0)) whole), omega (arith, fit .0))
-
-    -- a replay of what the log's stage left is the rest; with no store left, any stage is
-    pub commit-stages : {n₂ m₂ : ℕ} {l₂ : List ℕ} → Stage n₁ m₁ (recoverStores h (entries l₁ 0 k)) l₁ n₂ m₂ l₂ → Stage n m (commitStores h (changes (drop h l) w q)) l n₂ m₂ l₂
-    unfolding es
-    commit-stages t = rw (commit-is h es (omega (arith, fit .2))) (by-lt 0 n₁
-        (λ g. stage-more s (rw (commit-reads g) at t))
-        (λ g. stage-more s (stage-empty (omega arith) t)))
+-- its stores were made, as far as the allowance goes; home stands at h and has q pages, of which k differ from the workspace w
+pub commit-answer : (l : List ℕ) (h : ℕ) (w : List ℕ) (q k : ℕ) → Loggable l h w q k → 0 < k → {n n' m' : ℕ} {l' : List ℕ} → Stage n 0 (commitStores h (changes (drop h l) w q)) l n' m' l'
+    → (pick (leb (130 * k + 4) n) (Done m') (Cut m') ≡ answer (store (commitStores h (changes (drop h l) w q))) n) × (l' ≡ after (store (commitStores h (changes (drop h l) w q))) n l)
+commit-answer l h w q k fit some s = stage-answer (130 * k + 4) (commit-needs l h w q k fit some) s
 
 -- ---- the head
 
@@ -144,10 +125,6 @@ module _ (l : List ℕ) where
   committed-ok e = known Committed e (λ r z. let x : _≡_ {A = ℕ} 0 1 = cc in omega arith)
 
 -- ---- format
-
-pub head-made : (L R : ℕ) → over (over (over (replicate 64 0) 0 letters) 4 (bytes16 L)) 6 (bytes16 R) ≡ headPage L R
-unfolding over bytes16 headPage letters
-head-made L R = refl
 
 pub length-head : (L R : ℕ) → length (headPage L R) ≡ 64
 unfolding headPage letters bytes16

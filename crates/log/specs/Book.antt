@@ -5,10 +5,10 @@ use mathlib.Core.List.{List, [], _∷_}
 use lib.ListN.{length, take}
 use lib.Dec.{leb, eqb}
 use Rattle.wire.specs.Bytes.{pick}
+use Rattle.redo.specs.Store.{apply}
+use Rattle.redo.specs.Entry.{changes}
 use Rattle.log.specs.declared.Outcome.{Outcome}
 use Rattle.log.specs.declared.Outcome.the-variants.{Done, Cut, Refused}
-use Rattle.log.specs.Store.{apply}
-use Rattle.log.specs.Entry.{changes}
 use Rattle.log.specs.Calls.{Plan, refuse, store, answer, after, recoverPlan, commitPlan}
 
 -- ---- the calls, as the contracts of commit and recover have them

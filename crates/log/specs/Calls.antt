@@ -1,17 +1,19 @@
 -- The calls that store: each is refused, or has one list of stores that an allowance cuts.
-use Prim.Native.Nat.{ℕ, _-_, _*_}
+use Prim.Native.Nat.{ℕ, _*_}
 use mathlib.Core.Bool.{Bool, true, false, _&&_}
-use mathlib.Core.List.{List, [], _∷_, _++_}
-use lib.ListN.{length, take, drop, replicate}
+use mathlib.Core.List.{List, []}
+use lib.ListN.{length, take}
 use lib.Dec.{leb, eqb}
-use Rattle.wire.specs.Bytes.{pick, bytes16}
+use Rattle.wire.specs.Bytes.{pick}
+use Rattle.redo.specs.Store.{Store, apply}
+use Rattle.redo.specs.Image.{capacity, count, pages, homeAt, home, inRange, imageLength}
+use Rattle.redo.specs.Entry.{Entry, entries, rising, changes}
+use Rattle.redo.specs.Stores.{formatStores, recoverStores, commitStores}
 use Rattle.log.specs.declared.Head.{Head}
 use Rattle.log.specs.declared.Head.the-variants.{Bad, Clear, Committed}
 use Rattle.log.specs.declared.Outcome.{Outcome}
 use Rattle.log.specs.declared.Outcome.the-variants.{Done, Cut, Refused}
-use Rattle.log.specs.Store.{Store, apply, run}
-use Rattle.log.specs.Image.{letters, capacity, count, pages, homeAt, home, inRange, imageLength, headOf}
-use Rattle.log.specs.Entry.{Entry, entries, rising, changes, logged, replay}
+use Rattle.log.specs.Head.{headOf}
 
 -- what a call on given bytes comes to: its refusal, or all the stores that it needs
 pub data Plan : Type 0 where
@@ -42,29 +44,10 @@ atHead Committed clear committed = committed
 
 -- ---- format
 
--- an empty index: the head with entry count and mark 0, and zeros from byte 64 on
-unfoldable pub headPage : ℕ → ℕ → List ℕ
-headPage L R = letters ++ (bytes16 L ++ (bytes16 R ++ replicate 56 0))
-
-unfoldable pub emptyImage : ℕ → ℕ → List ℕ
-emptyImage L R = headPage L R ++ replicate (imageLength L R - 64) 0
-
--- byte 0 as 0 first, then all other bytes from 1 up, then byte 0 as its letter
-unfoldable pub formatStores : ℕ → ℕ → List Store
-formatStores L R = run 0 (0 ∷ []) ++ (run 1 (drop 1 (emptyImage L R)) ++ run 0 (take 1 letters))
-
 unfoldable pub formatPlan : List ℕ → ℕ → ℕ → Plan
 formatPlan l L R = unless (inRange L R && eqb (length l) (imageLength L R)) 14 (store (formatStores L R))
 
 -- ---- recover
-
--- mark 0
-unfoldable pub clearMark : List Store
-clearMark = run 10 (0 ∷ [])
-
--- the entries' pages to home in order, then mark 0
-unfoldable pub recoverStores : ℕ → List Entry → List Store
-recoverStores h es = replay h es ++ clearMark
 
 -- the entries that the count names
 abbrev pub logOf : List ℕ → List Entry
@@ -82,15 +65,6 @@ unfoldable pub recoverPlan : List ℕ → Plan
 recoverPlan l = atHead (headOf l) (store []) (committedPlan l)
 
 -- ---- commit
-
--- each page's log entry, the two count bytes, mark 165
-unfoldable pub logStores : List Entry → List Store
-logStores es = logged 0 es ++ (run 8 (bytes16 (length es)) ++ run 10 (165 ∷ []))
-
--- then each page to home, mark 0: which is what a recovery of that log does. None if no page differs
-unfoldable pub commitStores : ℕ → List Entry → List Store
-commitStores h [] = []
-commitStores h (e ∷ es) = logStores (e ∷ es) ++ recoverStores h (e ∷ es)
 
 -- the k pages in which the workspace differs from home, rising
 abbrev pub changed : List ℕ → List ℕ → List Entry

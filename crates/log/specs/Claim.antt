@@ -9,13 +9,13 @@ use lib.Dec.{leb, eqb}
 use borrow.Author.Tests.{eq-eqb, ne-eqb}
 use Rattle.wire.specs.Bytes.{pick}
 use Rattle.wire.specs.Cases.{by-test}
+use Rattle.redo.specs.Image.{capacity, recordPages, mark, home, headOk}
+use Rattle.redo.specs.ImageLaws.{same-refl, capacity-same, pages-same, head-right, length-home}
 use Rattle.log.specs.declared.Outcome.the-variants.{Done}
-use Rattle.log.specs.Image.{capacity, recordPages, mark, home, headOk}
-use Rattle.log.specs.ImageLaws.{same-refl, capacity-same, pages-same, head-right, length-home}
 use Rattle.log.specs.Calls.{answer, after, recoverPlan}
+use Rattle.log.specs.Book.{Call, recover, allowance, planOf, foretold, report, recoverNeed, Seen, seen, trace, final, Book, start, next, bookAfter, told, ledger}
 use Rattle.log.specs.Holds.{Settled}
 use Rattle.log.specs.Steps.{State, settled, owing, Holds, Step, step}
-use Rattle.log.specs.Book.{Call, recover, allowance, planOf, foretold, report, recoverNeed, Seen, seen, trace, final, Book, start, next, bookAfter, told, ledger}
 
 -- The list starts on an image l with a right head, mark 0 and accepted home. b is the book after it, x the image.
 pub record Claim (accept : List ℕ → Bool) (l : List ℕ) (cs : List Call) (b : Book) (x : List ℕ) : Type 0 where

@@ -10,15 +10,17 @@ use lib.Dec.{leb}
 use borrow.Author.Tests.{le-leb}
 use Rattle.wire.specs.Cases.{by-test}
 use Rattle.wire.specs.All.{All, none, more, all-map, all-take}
-use Rattle.log.specs.Store.{Store, apply, run}
-use Rattle.log.specs.StoreLaws.{apply-append, kept, drop-kept, again}
-use Rattle.log.specs.Image.{capacity, count, mark, pages, homeAt, home, headOk}
-use Rattle.log.specs.ImageLaws.{SameHead, head-kept, capacity-same, pages-same, head-right, length-home}
-use Rattle.log.specs.Entry.{Entry, entryAt, entries, replay}
-use Rattle.log.specs.EntryLaws.{Long, Whole, entries-long, changes-whole, changes-rising, changes-few, length-entries, replay-home, home-becomes}
-use Rattle.log.specs.Calls.{store, answer, changed, after, clearMark, recoverStores, logOf, logOk, logStores}
-use Rattle.log.specs.CallLaws.{length-recover, spare-recover, spare-log, below-log, log-unmarked, log-right, SameBelow, mark-same, count-same, log-same, log-ok-same, recover-cut, recover-clears, log-mark, log-count, log-entries}
-use Rattle.log.specs.Stage.{take-min}
+use Rattle.redo.specs.Store.{Store, apply, run}
+use Rattle.redo.specs.StoreLaws.{apply-append, kept, drop-kept, again}
+use Rattle.redo.specs.Image.{capacity, count, mark, pages, homeAt, home, headOk}
+use Rattle.redo.specs.ImageLaws.{SameHead, head-kept, capacity-same, pages-same, head-right, length-home}
+use Rattle.redo.specs.Entry.{Entry, entryAt, entries, replay}
+use Rattle.redo.specs.EntryLaws.{Long, Whole, entries-long, changes-whole, changes-rising, changes-few, length-entries, replay-home, home-becomes}
+use Rattle.redo.specs.Stores.{clearMark, recoverStores, logStores}
+use Rattle.redo.specs.StoresLaws.{length-recover, log-mark, log-count, log-entries}
+use Rattle.redo.specs.Stage.{take-min}
+use Rattle.log.specs.Calls.{store, answer, changed, after, logOf, logOk}
+use Rattle.log.specs.CallLaws.{spare-recover, spare-log, below-log, log-unmarked, log-right, SameBelow, mark-same, count-same, log-same, log-ok-same, recover-cut, recover-clears}
 use Rattle.log.specs.Book.{report, leftBy}
 
 -- ---- a plan's answer and bytes as the book puts them

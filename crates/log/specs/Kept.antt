@@ -10,12 +10,12 @@ use lib.Dec.{leb, eqb}
 use borrow.Author.Tests.{eqb-true, leb-true, le-leb, eq-eqb, ne-eqb}
 use Rattle.wire.specs.Bytes.{pick}
 use Rattle.wire.specs.Cases.{by-test, by-eq}
+use Rattle.redo.specs.Store.{apply}
+use Rattle.redo.specs.StoreLaws.{apply-none}
+use Rattle.redo.specs.Image.{capacity, mark, pages, home, headOk}
+use Rattle.redo.specs.Entry.{Entry, changes, replay}
+use Rattle.redo.specs.EntryLaws.{home-becomes}
 use Rattle.log.specs.declared.Outcome.the-variants.{Done, Cut, Refused}
-use Rattle.log.specs.Store.{apply}
-use Rattle.log.specs.StoreLaws.{apply-none}
-use Rattle.log.specs.Image.{capacity, mark, pages, home, headOk}
-use Rattle.log.specs.Entry.{Entry, changes, replay}
-use Rattle.log.specs.EntryLaws.{home-becomes}
 use Rattle.log.specs.Calls.{answer, after, recoverPlan, commitPlan}
 use Rattle.log.specs.Book.{Call, commit, recover, allowance, planOf, Seen, seen, told, foretold, final, Book, start, differing, Verdict, refused, writes, judge, commitNeed, markStored, report, answerTo, bookAt, next, bookAfter}
 use Rattle.log.specs.Steps.{Holds, Step, step, some-commit}

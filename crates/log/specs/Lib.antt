@@ -1,13 +1,7 @@
-pub mod Store
-pub mod StoreLaws
-pub mod Image
-pub mod ImageLaws
-pub mod Entry
-pub mod EntryLaws
+pub mod Head
+pub mod HeadLaws
 pub mod Calls
 pub mod CallLaws
-pub mod Stage
-pub mod Turns
 pub mod Answers
 pub mod FormatLaws
 pub mod Examples

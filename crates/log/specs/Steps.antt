@@ -11,15 +11,18 @@ use borrow.Author.Tests.{leb-true, le-leb, lt-leb, eq-eqb, ne-eqb, eqb-true}
 use Rattle.wire.specs.Bytes.{pick}
 use Rattle.wire.specs.Cases.{by-test, by-lt}
 use Rattle.wire.specs.All.{all-take}
-use Rattle.log.specs.Store.{Store, apply}
-use Rattle.log.specs.StoreLaws.{apply-take-append}
-use Rattle.log.specs.Image.{capacity, mark, pages, homeAt, headOk}
-use Rattle.log.specs.ImageLaws.{SameHead, same-trans, head-kept, head-same, capacity-same, pages-same, head-clear, head-committed}
-use Rattle.log.specs.Entry.{Entry, changes}
-use Rattle.log.specs.Calls.{Plan, unless, refuse, store, answer, after, changed, recoverStores, logOf, logOk, logStores, commitStores, committedPlan, recoverPlan, clearPlan, commitPlan}
-use Rattle.log.specs.CallLaws.{length-log, length-commit, commit-none, commit-is, spare-log}
-use Rattle.log.specs.Holds.{answer-report, after-report, Settled, Owing, recover-length, recover-head, recover-owes, recover-settles, long-changes, commit-early, commit-head, commit-log, commit-owes}
+use Rattle.redo.specs.Store.{Store, apply}
+use Rattle.redo.specs.StoreLaws.{apply-take-append}
+use Rattle.redo.specs.Image.{capacity, mark, pages, homeAt, headOk}
+use Rattle.redo.specs.ImageLaws.{SameHead, same-trans, head-kept, head-same, capacity-same, pages-same}
+use Rattle.redo.specs.Entry.{Entry, changes}
+use Rattle.redo.specs.Stores.{recoverStores, logStores, commitStores}
+use Rattle.redo.specs.StoresLaws.{length-log, length-commit, commit-none, commit-is}
+use Rattle.log.specs.HeadLaws.{head-clear, head-committed}
+use Rattle.log.specs.Calls.{Plan, unless, refuse, store, answer, after, changed, logOf, logOk, committedPlan, recoverPlan, clearPlan, commitPlan}
+use Rattle.log.specs.CallLaws.{spare-log}
 use Rattle.log.specs.Book.{Call, commit, recover, allowance, planOf, seen, Book, differing, refused, writes, judge, commitNeed, recoverNeed, report, markStored, answerTo, bookAt, foretold, next, leftBy, told}
+use Rattle.log.specs.Holds.{answer-report, after-report, Settled, Owing, recover-length, recover-head, recover-owes, recover-settles, long-changes, commit-early, commit-head, commit-log, commit-owes}
 
 -- ---- plans by the state of the image
 

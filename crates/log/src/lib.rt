@@ -1,11 +1,10 @@
-// The image's head, the redo log over pages, and the calls that store: format, commit and recover.
+// The image's head, and the calls that store: format, commit and recover.
 // Nothing here knows what the pages hold.
-mod entry;
-mod meter;
-mod sizes;
-mod stages;
-
-use meter::Meter;
+use redo::entry;
+use redo::meter;
+use redo::meter::Meter;
+use redo::sizes;
+use redo::stages;
 ghost use mathlib.Core.Path.{_≡_};
 ghost use mathlib.Core.Bool.{true};
 ghost use mathlib.Core.List.{[]};
@@ -13,9 +12,11 @@ ghost use Prim.Native.Nat.{_<_};
 ghost use lib.ListN.{length, drop};
 ghost use lib.Dec.{leb};
 ghost use Rattle.wire.specs.Bytes.{pick};
-ghost use Rattle.log.specs.Image.{headOf, headOk, home as homeOf, inRange, imageLength};
-ghost use Rattle.log.specs.Entry.{changes, Loggable};
-ghost use Rattle.log.specs.Calls.{answer, after, store, formatPlan, formatStores, recoverPlan, committedPlan, commitPlan, clearPlan, commitStores, anyBytes};
+ghost use Rattle.redo.specs.Image.{headOk, home as homeOf, inRange, imageLength};
+ghost use Rattle.redo.specs.Entry.{changes, Loggable};
+ghost use Rattle.redo.specs.Stores.{formatStores, commitStores};
+ghost use Rattle.log.specs.Head.{headOf};
+ghost use Rattle.log.specs.Calls.{answer, after, store, formatPlan, recoverPlan, committedPlan, commitPlan, clearPlan, anyBytes};
 
 // What a call that stores answers: done or cut, with the number of stores made, or refused with its number.
 pub enum Outcome {

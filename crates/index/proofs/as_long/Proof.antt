@@ -4,7 +4,7 @@ use lib.ListN.{length}
 use lib.Dec.{eqb}
 use mathlib.Core.List.{List}
 use Prim.Native.Nat.{ℕ}
-use Rattle.log.specs.Image.{home}
+use Rattle.redo.specs.Image.{home}
 use borrow.Author.Needs.{needs}
 use Rattle.index.proofs.as_long.Statement.{statement}
 use Rattle.index.proofs.as_long.Tie as tie

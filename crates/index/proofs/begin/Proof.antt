@@ -2,7 +2,7 @@ use mathlib.Core.Path.{sym, ap, _∙_}
 use Rattle.index.specs.GatesLaws.{lent-home}
 use Rattle.index.specs.ReadsLaws.{begun-done, begun-length, begun-shut}
 use lib.ListN.{length}
-use Rattle.log.specs.Image.{home}
+use Rattle.redo.specs.Image.{home}
 use Rattle.index.specs.Gates.{imageGate}
 use Rattle.index.specs.Reads.{beginAnswer, beginSpace}
 use Rattle.wire.specs.BytesLaws.{over-whole}

@@ -2,7 +2,7 @@ use mathlib.Core.Path.{sym, _∙_}
 use Rattle.index.specs.CommitLaws.{commit-length, commit-spoiled, commit-passes}
 use borrow.Author.Tests.{not-true, not-false, eqb-true, eqb-false}
 use lib.ListN.{length}
-use Rattle.log.specs.Image.{home}
+use Rattle.redo.specs.Image.{home}
 use Rattle.log.specs.Answers.{refused-is}
 use borrow.Author.Needs.{needs}
 use Rattle.index.proofs.commit_open.Statement.{statement}

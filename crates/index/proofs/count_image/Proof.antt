@@ -5,7 +5,7 @@ use mathlib.Core.List.{List}
 use Prim.Native.Nat.{ℕ}
 use lib.ListN.{length}
 use Rattle.home.specs.Sound.{sound, listOf}
-use Rattle.log.specs.Image.{home}
+use Rattle.redo.specs.Image.{home}
 use Rattle.index.specs.Gates.{imageGate}
 use Rattle.index.specs.Reads.{countImage}
 use borrow.Author.Needs.{needs}

@@ -6,7 +6,7 @@ use Prim.Native.Nat.{ℕ}
 use Rattle.records.specs.declared.Record.{Record}
 use Rattle.records.specs.Records.{encode}
 use Rattle.home.specs.Sound.{sound, listOf}
-use Rattle.log.specs.Image.{home}
+use Rattle.redo.specs.Image.{home}
 use Rattle.index.specs.Gates.{imageGate}
 use Rattle.index.specs.Merges.{fitted, filled, mergeImage, outImage}
 use borrow.Author.Needs.{needs}

@@ -1,6 +1,7 @@
 use mathlib.Core.Path.{sym, _∙_}
 use native.Mathlib.Omega.{arith}
-use Rattle.log.specs.ImageLaws.{head-right, head-bad, head-clear, head-committed, head-other}
+use Rattle.redo.specs.ImageLaws.{head-right}
+use Rattle.log.specs.HeadLaws.{head-bad, head-clear, head-committed, head-other}
 use borrow.Author.Needs.{needs}
 use Rattle.log.proofs.read_head.Statement.{statement}
 use Rattle.log.proofs.read_head.Tie as tie

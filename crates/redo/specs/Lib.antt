@@ -1,0 +1,11 @@
+pub mod Store
+pub mod StoreLaws
+pub mod Image
+pub mod ImageLaws
+pub mod Entry
+pub mod EntryLaws
+pub mod Stores
+pub mod StoresLaws
+pub mod Stage
+pub mod Turns
+pub mod Stages
