@@ -24,7 +24,7 @@ fn main() {
     println!("every cut of a commit, with every cut of its recovery: {} calls", tally.calls);
     let mut rng = Random::new(seed);
     while tally.calls < calls {
-        session(&mut rng, &mut tally);
+        one_image(&mut rng, &mut tally);
     }
     let mut refusals: Vec<String> = Vec::new();
     for (n, k) in tally.refused.iter().enumerate().filter(|(_, k)| **k > 0) {
@@ -77,7 +77,7 @@ fn every_cut(tally: &mut Tally) {
 // ---- random calls
 
 /// One image with its workspace, edited, read, committed, cut, recovered and spoiled.
-fn session(rng: &mut Random, tally: &mut Tally) {
+fn one_image(rng: &mut Random, tally: &mut Tally) {
     let pages = match rng.below(100) {
         0..=59 => 1 + rng.below(4),
         60..=84 => 5 + rng.below(12),
