@@ -20,8 +20,9 @@ fn main() {
     let mut tally = Tally::default();
     if calls >= 100_000 {
         every_cut(&mut tally);
+        limits(&mut tally);
     }
-    println!("every cut of a commit, with every cut of its recovery: {} calls", tally.calls);
+    println!("every cut of a commit with every cut of its recovery, and the limits: {} calls", tally.calls);
     let mut rng = Random::new(seed);
     while tally.calls < calls {
         one_image(&mut rng, &mut tally);
@@ -72,6 +73,23 @@ fn every_cut(tally: &mut Tally) {
             }
         }
     }
+}
+
+/// A list of 989 records and one more, 256 tags and one more.
+fn limits(tally: &mut Tally) {
+    let mut p = Pair::formatted(1050, 1024, tally);
+    p.begin(tally);
+    for i in 0..991u32 {
+        let s = (i.min(989) * 7919 % 100_003).to_be_bytes();
+        p.put(7, [1, s[0], s[1], s[2], s[3], 0, 9, 0], tally);
+    }
+    for tag in 8..=264 {
+        p.put(tag, [1, 0, 0, 0, 1, 0, 9, 0], tally);
+    }
+    p.put(7, [1, 0, 0, 0, 0, 0, 9, 5], tally);
+    p.commit(cix::ALL, tally);
+    p.count(Of::Image, 7, tally);
+    assert!(tally.refused[8] > 0 && tally.refused[10] > 0 && tally.refused[11] > 0);
 }
 
 // ---- random calls
