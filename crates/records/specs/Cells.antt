@@ -12,6 +12,9 @@ use Rattle.records.specs.Records.{key, recordAt, records, rest, bytesOf}
 
 -- ---- one record
 
+pub halves : (a b : ℕ) → (a * 4294967296 + b) / 256 ≡ a * 16777216 + b / 256
+halves a b = omega arith
+
 -- a record's key from two numbers of 4 bytes
 pub key-read : (l : List ℕ) (at : ℕ) → getD l (at + 4 + 3) 0 < 256 → get32 l at * 16777216 + get32 l (at + 4) / 256 ≡ key (recordAt l at)
 unfolding key recordAt get32 get16

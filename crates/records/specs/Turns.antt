@@ -2,7 +2,7 @@
 use mathlib.Core.Path.{_≡_, sym, ap, _∙_}
 use mathlib.Core.Bool.{Bool, true, false}
 use mathlib.Core.List.{List, [], append-nil}
-use Prim.Native.Nat.{ℕ, _+_, _*_, _/_, _≤_, _<_}
+use Prim.Native.Nat.{ℕ, _+_, _*_, _/_, _%_, _≤_, _<_}
 use native.Mathlib.Omega.{arith}
 use lib.ListN.{length, getD}
 use Rattle.wire.specs.Bytes.{over}
@@ -29,6 +29,22 @@ rising-turn l low i g h = rw (rest-more l i g, le-leb low (key (recordAt l (8 * 
 pub rising-stop : (l : List ℕ) (low i : ℕ) → i < length l / 8 → key (recordAt l (8 * i)) < low → risingFrom low (rest l i) ≡ false
 unfolding risingFrom
 rising-stop l low i g h = rw (rest-more l i g, lt-leb low (key (recordAt l (8 * i))) h)
+
+-- by whole records: a number's key is all but its last byte
+pub rising-first : (l : List ℕ) (w last : ℕ) → 0 < length l / 8 → w / 256 ≡ key (recordAt l (8 * 0)) → last ≡ 256 * (w / 256) + 255
+    → risingFrom (last / 256 + 1) (rest l 1) ≡ risingFrom 0 (decode l)
+rising-first l w last g e f =
+    let k : last / 256 ≡ key (recordAt l (8 * 0)) = omega (arith, e, f) in
+    rw k (rising-turn l 0 0 g (omega arith)) ∙ ap (risingFrom 0) (rest-all l)
+
+pub rising-next : (l : List ℕ) (last i w last' : ℕ) → i < length l / 8 → last % 256 ≡ 255 → last < w → w / 256 ≡ key (recordAt l (8 * i)) → last' ≡ 256 * (w / 256) + 255
+    → risingFrom (last' / 256 + 1) (rest l (i + 1)) ≡ risingFrom (last / 256 + 1) (rest l i)
+rising-next l last i w last' g m h e f =
+    let k : last' / 256 ≡ key (recordAt l (8 * i)) = omega (arith, e, f) in
+    rw k (rising-turn l (last / 256 + 1) i g (omega (arith, e)))
+
+pub rising-low : (l : List ℕ) (last i w : ℕ) → i < length l / 8 → w ≤ last → w / 256 ≡ key (recordAt l (8 * i)) → risingFrom (last / 256 + 1) (rest l i) ≡ false
+rising-low l last i w g h e = rising-stop l (last / 256 + 1) i g (omega (arith, e))
 
 pub rising-end : (l : List ℕ) (low i : ℕ) → length l / 8 ≤ i → risingFrom low (rest l i) ≡ true
 unfolding risingFrom

@@ -95,13 +95,13 @@ fn zone_fine(home: &[u8], area: usize, c: usize, e: usize) -> bool
 {
     let first = zone_first(home, c);
     let many = zone_count(home, c);
-    let size = cells(c);
     if many == 0 {
         return first == 0;
     }
     if first < e {
         return false;
     }
+    let size = cells(c);
     if e + size <= first {
         return false;
     }
