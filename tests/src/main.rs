@@ -3,6 +3,7 @@
 mod model;
 mod pair;
 mod random;
+mod spoiled;
 
 use model::Of;
 use pair::Pair;
@@ -15,6 +16,7 @@ fn main() {
     let seed = args
         .next()
         .unwrap_or_else(|| SystemTime::now().duration_since(UNIX_EPOCH).unwrap().as_micros() as u64);
+    println!("{} changed images answered as told", spoiled::compare());
     println!("seed {seed}");
     let start = Instant::now();
     let mut tally = Tally::default();
