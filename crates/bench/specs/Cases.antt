@@ -27,10 +27,11 @@ use Rattle.home.specs.Edits.{put, delete, dropTag}
 use Rattle.edits.specs.declared.Answer.{Answer}
 use Rattle.edits.specs.declared.Answer.the-variants.{Count, Refused}
 use Rattle.edits.specs.Edits.{told}
+use Rattle.gates.specs.Gates.{byHead, imageGate, spaceGate, gatedAnswer, gatedBytes}
+use Rattle.reads.specs.Reads.{counted, countImage}
 use Rattle.index.specs.declared.Begun.{Begun}
 use Rattle.index.specs.declared.Begun.the-variants.{Done as BeginDone}
-use Rattle.index.specs.Gates.{byHead, imageGate, spaceGate, gatedAnswer, gatedBytes}
-use Rattle.index.specs.Reads.{counted, countImage, begun, spaceAfter, beginAnswer, beginSpace}
+use Rattle.index.specs.Begin.{begun, spaceAfter, beginAnswer, beginSpace}
 use Rattle.index.specs.Edits.{putAnswer, putSpace, deleteAnswer, deleteSpace, dropAnswer, dropSpace}
 
 -- ---- what a row says

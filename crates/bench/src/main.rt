@@ -238,7 +238,7 @@ fn recover(image: &mut [u8], old: &[u8], new: &[u8], tag: u32) {
     word(b"; ");
     tag_number(tag);
     word(b" has ");
-    answer(index::count_image(image, tag));
+    answer(reads::count_image(image, tag));
 }
 
 fn load(to: &mut [u8], from: &[u8]) {

@@ -16,12 +16,12 @@ use Rattle.home.specs.Sound.{sound, listOf}
 use Rattle.edits.specs.declared.Answer.{Answer}
 use Rattle.edits.specs.declared.Answer.the-variants.{Count, Refused}
 use Rattle.edits.specs.Effects.{Effect}
-use Rattle.index.specs.declared.Gate.{Gate}
-use Rattle.index.specs.declared.Gate.the-variants.{Open, Shut}
-use Rattle.index.specs.Gates.{imageGate, spaceGate, gatedAnswer}
-use Rattle.index.specs.GatesLaws.{image-open, space-open}
-use Rattle.index.specs.Reads.{counted, countImage, countSpace}
-use Rattle.index.specs.Merges.{fitted, mergedOf, mergeImage, mergeSpace}
+use Rattle.gates.specs.declared.Gate.{Gate}
+use Rattle.gates.specs.declared.Gate.the-variants.{Open, Shut}
+use Rattle.gates.specs.Gates.{imageGate, spaceGate, gatedAnswer}
+use Rattle.gates.specs.GatesLaws.{image-open, space-open}
+use Rattle.reads.specs.Reads.{counted, countImage, countSpace}
+use Rattle.reads.specs.Merges.{fitted, mergedOf, mergeImage, mergeSpace}
 use Rattle.index.specs.Edits.{putAnswer, putSpace, deleteAnswer, deleteSpace, setAnswer, setSpace, dropAnswer, dropSpace}
 use Rattle.index.specs.Demands.{put-effect, delete-effect, set-effect, drop-effect}
 use Rattle.cix.specs.PlacesLaws.{list-short}

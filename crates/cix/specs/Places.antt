@@ -9,10 +9,10 @@ use Rattle.home.specs.declared.lookup.Slot.the-variants.{At, Absent}
 use Rattle.home.specs.Bytes.{cellAt, placeAt}
 use Rattle.home.specs.Lookup.{slotOf}
 use Rattle.home.specs.Sound.{listOf}
-use Rattle.index.specs.declared.Gate.{Gate}
-use Rattle.index.specs.declared.Gate.the-variants.{Open, Shut}
-use Rattle.index.specs.Gates.{imageGate, spaceGate}
-use Rattle.index.specs.Reads.{shown}
+use Rattle.gates.specs.declared.Gate.{Gate}
+use Rattle.gates.specs.declared.Gate.the-variants.{Open, Shut}
+use Rattle.gates.specs.Gates.{imageGate, spaceGate}
+use Rattle.reads.specs.Reads.{shown}
 
 -- behind the header of the block to which the tag's entry leads, in a home that begins at an offset; 0 for an unknown tag
 unfoldable pub slotPlace : ℕ → List ℕ → Slot → ℕ

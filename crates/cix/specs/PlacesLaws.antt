@@ -22,11 +22,11 @@ use Rattle.home.specs.Sound.{sound, Sound, listOf}
 use Rattle.home.specs.SoundLaws.{t-sound}
 use Rattle.home.specs.HomeLaws.{length-encode-home}
 use Rattle.edits.specs.declared.Answer.the-variants.{Count, Refused}
-use Rattle.index.specs.declared.Gate.{Gate}
-use Rattle.index.specs.declared.Gate.the-variants.{Open, Shut}
-use Rattle.index.specs.Gates.{imageGate, spaceGate}
-use Rattle.index.specs.GatesLaws.{image-open, lent-home, space-open}
-use Rattle.index.specs.Reads.{counted, shown, countImage, countSpace, showImage, showSpace}
+use Rattle.gates.specs.declared.Gate.{Gate}
+use Rattle.gates.specs.declared.Gate.the-variants.{Open, Shut}
+use Rattle.gates.specs.Gates.{imageGate, spaceGate}
+use Rattle.gates.specs.GatesLaws.{image-open, lent-home, space-open}
+use Rattle.reads.specs.Reads.{counted, shown, countImage, countSpace, showImage, showSpace}
 use Rattle.cix.specs.Places.{slotPlace, gatePlace, spanOf, imagePlace, imageSpan, spacePlace, spaceSpan}
 
 -- ---- in a sound home

@@ -11,9 +11,10 @@ ghost use Prim.Native.Nat.{_+_, _*_, _≤_, _<_};
 ghost use Rattle.log.specs.Calls.{answer, after, formatPlan, recoverPlan, commitPlan};
 ghost use Rattle.records.specs.Records.{key};
 ghost use Rattle.home.specs.Sound.{sound as isSound};
-ghost use Rattle.index.specs.Reads.{countImage, countSpace, beginAnswer, beginSpace};
+ghost use Rattle.reads.specs.Reads.{countImage, countSpace};
+ghost use Rattle.reads.specs.Merges.{mergeImage, outImage, mergeSpace, outSpace};
+ghost use Rattle.index.specs.Begin.{beginAnswer, beginSpace};
 ghost use Rattle.index.specs.Edits.{putAnswer, putSpace, deleteAnswer, deleteSpace, setAnswer, setSpace, dropAnswer, dropSpace};
-ghost use Rattle.index.specs.Merges.{mergeImage, outImage, mergeSpace, outSpace};
 ghost use lib.ListN.{length};
 ghost use Rattle.home.specs.Bytes.{placeAt};
 ghost use Rattle.home.specs.Lookup.{slotOf};
@@ -173,7 +174,7 @@ pub extern "C" fn cix_recover(image: &mut [u8], stores: u32) -> u64
 pub extern "C" fn cix_count_image(image: &[u8], tag: u32) -> u64
     ensures { λ r. ⌜ r ≡ ofAnswer (countImage (now (image .entry)) tag) ⌝ }
 {
-    let a = index::count_image(image, tag);
+    let a = reads::count_image(image, tag);
     of_answer(a)
 }
 
@@ -182,7 +183,7 @@ pub extern "C" fn cix_count_image(image: &[u8], tag: u32) -> u64
 pub extern "C" fn cix_count_space(space: &[u8], tag: u32) -> u64
     ensures { λ r. ⌜ r ≡ ofAnswer (countSpace (now (space .entry)) tag) ⌝ }
 {
-    let a = index::count_space(space, tag);
+    let a = reads::count_space(space, tag);
     of_answer(a)
 }
 
@@ -192,7 +193,7 @@ pub extern "C" fn cix_both_image(image: &[u8], first: u32, second: u32, out: &mu
     ensures { λ r. ⌜ r ≡ ofAnswer (mergeImage Merge.Both (now (image .entry)) first second (now (out .entry))) ⌝ }
     ensures { λ _. ⌜ now (out .exit) ≡ outImage Merge.Both (now (image .entry)) first second (now (out .entry)) ⌝ }
 {
-    let a = index::merge_image(image, Merge::Both, first, second, out);
+    let a = reads::merge_image(image, Merge::Both, first, second, out);
     of_answer(a)
 }
 
@@ -202,7 +203,7 @@ pub extern "C" fn cix_both_space(space: &[u8], first: u32, second: u32, out: &mu
     ensures { λ r. ⌜ r ≡ ofAnswer (mergeSpace Merge.Both (now (space .entry)) first second (now (out .entry))) ⌝ }
     ensures { λ _. ⌜ now (out .exit) ≡ outSpace Merge.Both (now (space .entry)) first second (now (out .entry)) ⌝ }
 {
-    let a = index::merge_space(space, Merge::Both, first, second, out);
+    let a = reads::merge_space(space, Merge::Both, first, second, out);
     of_answer(a)
 }
 
@@ -212,7 +213,7 @@ pub extern "C" fn cix_either_image(image: &[u8], first: u32, second: u32, out: &
     ensures { λ r. ⌜ r ≡ ofAnswer (mergeImage Merge.Either (now (image .entry)) first second (now (out .entry))) ⌝ }
     ensures { λ _. ⌜ now (out .exit) ≡ outImage Merge.Either (now (image .entry)) first second (now (out .entry)) ⌝ }
 {
-    let a = index::merge_image(image, Merge::Either, first, second, out);
+    let a = reads::merge_image(image, Merge::Either, first, second, out);
     of_answer(a)
 }
 
@@ -222,7 +223,7 @@ pub extern "C" fn cix_either_space(space: &[u8], first: u32, second: u32, out: &
     ensures { λ r. ⌜ r ≡ ofAnswer (mergeSpace Merge.Either (now (space .entry)) first second (now (out .entry))) ⌝ }
     ensures { λ _. ⌜ now (out .exit) ≡ outSpace Merge.Either (now (space .entry)) first second (now (out .entry)) ⌝ }
 {
-    let a = index::merge_space(space, Merge::Either, first, second, out);
+    let a = reads::merge_space(space, Merge::Either, first, second, out);
     of_answer(a)
 }
 
@@ -232,7 +233,7 @@ pub extern "C" fn cix_without_image(image: &[u8], first: u32, second: u32, out: 
     ensures { λ r. ⌜ r ≡ ofAnswer (mergeImage Merge.Without (now (image .entry)) first second (now (out .entry))) ⌝ }
     ensures { λ _. ⌜ now (out .exit) ≡ outImage Merge.Without (now (image .entry)) first second (now (out .entry)) ⌝ }
 {
-    let a = index::merge_image(image, Merge::Without, first, second, out);
+    let a = reads::merge_image(image, Merge::Without, first, second, out);
     of_answer(a)
 }
 
@@ -242,7 +243,7 @@ pub extern "C" fn cix_without_space(space: &[u8], first: u32, second: u32, out: 
     ensures { λ r. ⌜ r ≡ ofAnswer (mergeSpace Merge.Without (now (space .entry)) first second (now (out .entry))) ⌝ }
     ensures { λ _. ⌜ now (out .exit) ≡ outSpace Merge.Without (now (space .entry)) first second (now (out .entry)) ⌝ }
 {
-    let a = index::merge_space(space, Merge::Without, first, second, out);
+    let a = reads::merge_space(space, Merge::Without, first, second, out);
     of_answer(a)
 }
 
@@ -281,7 +282,7 @@ fn span(place: usize, n: usize) -> u64
 pub extern "C" fn cix_show_image(image: &[u8], tag: u32) -> u64
     ensures { λ r. ⌜ r ≡ imageSpan (now (image .entry)) tag ⌝ }
 {
-    match index::count_image(image, tag) {
+    match reads::count_image(image, tag) {
         Answer::Count(n) => {
             let home = log::home(image);
             let at = image.len() - home.len();
@@ -297,7 +298,7 @@ pub extern "C" fn cix_show_image(image: &[u8], tag: u32) -> u64
 pub extern "C" fn cix_show_space(space: &[u8], tag: u32) -> u64
     ensures { λ r. ⌜ r ≡ spaceSpan (now (space .entry)) tag ⌝ }
 {
-    match index::count_space(space, tag) {
+    match reads::count_space(space, tag) {
         Answer::Count(n) => {
             let p = place(space, 0, tag);
             span(p, n)

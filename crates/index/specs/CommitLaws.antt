@@ -16,9 +16,9 @@ use Rattle.log.specs.Head.{headOf}
 use Rattle.log.specs.Calls.{refuse, atHead, clearPlan, commitPlan, anyBytes}
 use Rattle.log.specs.Answers.{clear-ok}
 use Rattle.home.specs.Sound.{sound}
-use Rattle.index.specs.declared.Gate.the-variants.{Open, Shut}
-use Rattle.index.specs.Gates.{byHead, imageGate}
-use Rattle.index.specs.GatesLaws.{image-open}
+use Rattle.gates.specs.declared.Gate.the-variants.{Open, Shut}
+use Rattle.gates.specs.Gates.{byHead, imageGate}
+use Rattle.gates.specs.GatesLaws.{image-open}
 
 module _ (l w : List ℕ) where
   -- 1, 2, 3 and 5

@@ -33,13 +33,13 @@ use Rattle.home.specs.SoundLaws.{sound-encode, listOf-encode}
 use Rattle.edits.specs.declared.Answer.the-variants.{Count}
 use Rattle.edits.specs.Effects.{Effect, put-does, delete-does, set-does, drop-does}
 use Rattle.edits.specs.Edits.{told, putIn, deleteIn, setIn, dropIn, leaves}
-use Rattle.index.specs.declared.Gate.{Gate}
-use Rattle.index.specs.declared.Gate.the-variants.{Open, Shut}
-use Rattle.index.specs.Gates.{byHead, imageGate, spaceGate, gatedAnswer, gatedBytes}
-use Rattle.index.specs.GatesLaws.{image-open, space-open}
+use Rattle.gates.specs.declared.Gate.{Gate}
+use Rattle.gates.specs.declared.Gate.the-variants.{Open, Shut}
+use Rattle.gates.specs.Gates.{byHead, imageGate, spaceGate, gatedAnswer, gatedBytes}
+use Rattle.gates.specs.GatesLaws.{image-open, space-open}
+use Rattle.reads.specs.Reads.{counted, shown, countImage, countSpace, showImage, showSpace}
+use Rattle.reads.specs.MergesLaws.{sound-listed}
 use Rattle.index.specs.CommitLaws.{commit-shut}
-use Rattle.index.specs.Reads.{counted, shown, countImage, countSpace, showImage, showSpace}
-use Rattle.index.specs.MergesLaws.{sound-listed}
 use Rattle.index.specs.Edits.{putAnswer, putSpace, deleteAnswer, deleteSpace, setAnswer, setSpace, dropAnswer, dropSpace}
 
 -- ---- edits

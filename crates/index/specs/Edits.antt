@@ -5,7 +5,7 @@ use Rattle.records.specs.declared.Record.{Record}
 use Rattle.home.specs.Edits.{Edited}
 use Rattle.edits.specs.declared.Answer.{Answer}
 use Rattle.edits.specs.Edits.{told, putIn, deleteIn, setIn, dropIn, leaves}
-use Rattle.index.specs.Gates.{spaceGate, gatedAnswer, gatedBytes}
+use Rattle.gates.specs.Gates.{spaceGate, gatedAnswer, gatedBytes}
 
 -- what an edit of a workspace answers and leaves
 abbrev pub editAnswer : List ℕ → Edited → Answer

@@ -1,10 +1,6 @@
-pub mod Gates
+pub mod Begin
+pub mod BeginLaws
 pub mod Edits
-pub mod Reads
-pub mod GatesLaws
-pub mod ReadsLaws
-pub mod Merges
-pub mod MergesLaws
 pub mod CommitLaws
 pub mod Claim
 pub mod Rules

@@ -15,7 +15,7 @@ use Rattle.home.specs.Layout.{change}
 use Rattle.home.specs.Bytes.{decode}
 use Rattle.home.specs.Sound.{sized, sound, pagesOf, listOf}
 use Rattle.room.specs.Spans.{isSome}
-use Rattle.index.specs.Merges.{mergedOf}
+use Rattle.reads.specs.Merges.{mergedOf}
 
 pub data Rule : Type 0 where
   rule : ℕ → Bool → Rule

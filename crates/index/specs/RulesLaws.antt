@@ -30,12 +30,13 @@ use Rattle.zones.specs.SoundLaws.{sound-valid}
 use Rattle.edits.specs.RecordLaws.{some-is}
 use Rattle.edits.specs.EditsLaws.{drop-some}
 use Rattle.edits.specs.Edits.{told, putIn, deleteIn, setIn, dropIn}
-use Rattle.index.specs.declared.Gate.{Gate}
-use Rattle.index.specs.declared.Gate.the-variants.{Open, Shut}
+use Rattle.gates.specs.declared.Gate.{Gate}
+use Rattle.gates.specs.declared.Gate.the-variants.{Open, Shut}
+use Rattle.gates.specs.Gates.{byHead, imageGate, spaceGate, gatedAnswer}
+use Rattle.reads.specs.Reads.{counted, countImage, countSpace}
+use Rattle.reads.specs.Merges.{fitted, mergedOf, mergeImage, mergeSpace}
 use Rattle.index.specs.declared.Begun.the-variants.{Done, Unbegun}
-use Rattle.index.specs.Gates.{byHead, imageGate, spaceGate, gatedAnswer}
-use Rattle.index.specs.Reads.{counted, countImage, countSpace, begun, beginAnswer}
-use Rattle.index.specs.Merges.{fitted, mergedOf, mergeImage, mergeSpace}
+use Rattle.index.specs.Begin.{begun, beginAnswer}
 use Rattle.index.specs.Edits.{putAnswer, deleteAnswer, setAnswer, dropAnswer}
 use Rattle.index.specs.Rules.{Rule, rule, lowest, imageRules, spaceRules, beginRules, commitRules, recoverRules, formatRules, putRules, recordRules, dropRules, mergeRules}
 

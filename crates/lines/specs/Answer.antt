@@ -10,7 +10,7 @@ use Rattle.redo.specs.Image.{home}
 use Rattle.home.specs.Sound.{listOf}
 use Rattle.edits.specs.declared.Answer.{Answer}
 use Rattle.edits.specs.declared.Answer.the-variants.{Count, Refused}
-use Rattle.index.specs.Reads.{countImage}
+use Rattle.reads.specs.Reads.{countImage}
 use Rattle.lines.specs.declared.Word.{Word}
 use Rattle.lines.specs.declared.Word.the-variants.{Put, Del, Set, Drop, Show}
 use Rattle.lines.specs.declared.Command.{Command}

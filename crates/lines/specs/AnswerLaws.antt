@@ -12,12 +12,12 @@ use Rattle.records.specs.Edits.{length-encode}
 use Rattle.redo.specs.Image.{home}
 use Rattle.home.specs.Sound.{sound, listOf}
 use Rattle.edits.specs.declared.Answer.the-variants.{Count}
-use Rattle.index.specs.declared.Gate.{Gate}
-use Rattle.index.specs.declared.Gate.the-variants.{Open, Shut}
-use Rattle.index.specs.Gates.{imageGate}
-use Rattle.index.specs.GatesLaws.{image-open}
-use Rattle.index.specs.Reads.{counted, shown, countImage, showImage}
-use Rattle.index.specs.MergesLaws.{sound-listed, list-reads}
+use Rattle.gates.specs.declared.Gate.{Gate}
+use Rattle.gates.specs.declared.Gate.the-variants.{Open, Shut}
+use Rattle.gates.specs.Gates.{imageGate}
+use Rattle.gates.specs.GatesLaws.{image-open}
+use Rattle.reads.specs.Reads.{counted, shown, countImage, showImage}
+use Rattle.reads.specs.MergesLaws.{sound-listed, list-reads}
 use Rattle.lines.specs.declared.Command.{Command}
 use Rattle.lines.specs.declared.Printed.the-variants.{Bytes, Short}
 use Rattle.lines.specs.Grammar.{parsed}

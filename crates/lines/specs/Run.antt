@@ -11,7 +11,7 @@ use Rattle.edits.specs.declared.Answer.{Answer}
 use Rattle.edits.specs.declared.Answer.the-variants.{Count, Refused as Unedited}
 use Rattle.index.specs.declared.Begun.{Begun}
 use Rattle.index.specs.declared.Begun.the-variants.{Done as Begin, Unbegun}
-use Rattle.index.specs.Reads.{beginAnswer, beginSpace}
+use Rattle.index.specs.Begin.{beginAnswer, beginSpace}
 use Rattle.index.specs.Edits.{putAnswer, putSpace, deleteAnswer, deleteSpace, setAnswer, setSpace, dropAnswer, dropSpace}
 use Rattle.lines.specs.declared.Word.{Word}
 use Rattle.lines.specs.declared.Word.the-variants.{Put, Del, Set, Drop, Show}

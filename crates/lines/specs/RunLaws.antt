@@ -22,13 +22,13 @@ use Rattle.log.specs.Answers.{clear-ok}
 use Rattle.log.specs.Holds.{long-changes}
 use Rattle.home.specs.Sound.{sound}
 use Rattle.edits.specs.declared.Answer.{Answer}
+use Rattle.gates.specs.declared.Gate.{Gate}
+use Rattle.gates.specs.declared.Gate.the-variants.{Open, Shut}
+use Rattle.gates.specs.Gates.{imageGate}
+use Rattle.gates.specs.GatesLaws.{image-open}
 use Rattle.index.specs.declared.Begun.the-variants.{Done as Begin, Unbegun}
-use Rattle.index.specs.declared.Gate.{Gate}
-use Rattle.index.specs.declared.Gate.the-variants.{Open, Shut}
-use Rattle.index.specs.Gates.{imageGate}
-use Rattle.index.specs.GatesLaws.{image-open}
 use Rattle.index.specs.CommitLaws.{commit-shut}
-use Rattle.index.specs.Reads.{begun, spaceAfter, beginAnswer, beginSpace}
+use Rattle.index.specs.Begin.{begun, spaceAfter, beginAnswer, beginSpace}
 use Rattle.lines.specs.declared.Reply.{Reply}
 use Rattle.lines.specs.declared.Reply.the-variants.{No}
 use Rattle.lines.specs.declared.Command.{Command}

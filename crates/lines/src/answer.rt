@@ -17,7 +17,7 @@ ghost use lib.ListN.{length};
 ghost use Rattle.wire.specs.Bytes.{over};
 ghost use Rattle.redo.specs.Image.{home as homeOf};
 ghost use Rattle.home.specs.Sound.{listOf};
-ghost use Rattle.index.specs.Reads.{countImage};
+ghost use Rattle.reads.specs.Reads.{countImage};
 ghost use Rattle.lines.specs.Grammar.{parsed};
 ghost use Rattle.lines.specs.Answer.{replyLine, listing, isShow, commandText, commandImage, commandSpace, lineText, lineImage, lineSpace, printedOf, outOf, imageAfter, spaceAfter};
 
@@ -49,9 +49,9 @@ fn put_listing(image: &[u8], tag: u32, out: &mut [u8]) -> usize
     requires { ⌜ 24745 ≤ length (now out) ⌝ }
     ensures { λ n. ⌜ (now (out .exit) ≡ over (now (out .entry)) 0 (listing (countImage (now (image .entry)) tag) tag (listOf (homeOf (now (image .entry))) tag))) × (n ≡ length (listing (countImage (now (image .entry)) tag) tag (listOf (homeOf (now (image .entry))) tag))) × (n ≤ 24745) ⌝ }
 {
-    match index::count_image(image, tag) {
+    match reads::count_image(image, tag) {
         Answer::Count(_) => {
-            let list = index::show_image(image, tag);
+            let list = reads::show_image(image, tag);
             put_list(out, tag, list)
         }
         Answer::Refused(n) => put_no(out, n),

@@ -1,5 +1,5 @@
 use mathlib.Core.Path.{ap}
-use Rattle.index.specs.GatesLaws.{lent-home}
+use Rattle.gates.specs.GatesLaws.{lent-home}
 use lib.ListN.{length}
 use lib.Dec.{eqb}
 use mathlib.Core.List.{List}

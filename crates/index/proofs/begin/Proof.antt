@@ -1,10 +1,10 @@
 use mathlib.Core.Path.{sym, ap, _∙_}
-use Rattle.index.specs.GatesLaws.{lent-home}
-use Rattle.index.specs.ReadsLaws.{begun-done, begun-length, begun-shut}
+use Rattle.gates.specs.GatesLaws.{lent-home}
+use Rattle.index.specs.BeginLaws.{begun-done, begun-length, begun-shut}
 use lib.ListN.{length}
 use Rattle.redo.specs.Image.{home}
-use Rattle.index.specs.Gates.{imageGate}
-use Rattle.index.specs.Reads.{beginAnswer, beginSpace}
+use Rattle.gates.specs.Gates.{imageGate}
+use Rattle.index.specs.Begin.{beginAnswer, beginSpace}
 use Rattle.wire.specs.BytesLaws.{over-whole}
 use borrow.Author.Needs.{needs}
 use Rattle.index.proofs.begin.Statement.{statement}

@@ -1,6 +1,6 @@
 use mathlib.Core.Path.{sym, _∙_}
-use Rattle.index.specs.Gates.{spaceGate}
-use Rattle.index.specs.GatesLaws.{space-open, gated-open, gated-shut}
+use Rattle.gates.specs.Gates.{spaceGate}
+use Rattle.gates.specs.GatesLaws.{space-open, gated-open, gated-shut}
 use Rattle.index.specs.Edits.{deleteAnswer, deleteSpace}
 use borrow.Author.Needs.{needs}
 use Rattle.index.proofs.delete.Statement.{statement}

@@ -11,7 +11,7 @@ use Rattle.redo.specs.Image.{home}
 use Rattle.home.specs.Sound.{listOf}
 use Rattle.edits.specs.declared.Answer.{Answer}
 use Rattle.edits.specs.declared.Answer.the-variants.{Count, Refused}
-use Rattle.index.specs.Gates.{imageGate, spaceGate, gatedAnswer, gatedBytes}
+use Rattle.gates.specs.Gates.{imageGate, spaceGate, gatedAnswer, gatedBytes}
 
 -- "15: output shorter than the records to write"; "Answer: the number of records. Bytes beyond them stay."
 unfoldable pub fitted : List Record → List ℕ → Answer

@@ -9,8 +9,8 @@ use Rattle.log.specs.Head.{headOf}
 use Rattle.home.specs.Sound.{sized, sound}
 use Rattle.edits.specs.declared.Answer.{Answer}
 use Rattle.edits.specs.declared.Answer.the-variants.{Refused}
-use Rattle.index.specs.declared.Gate.{Gate}
-use Rattle.index.specs.declared.Gate.the-variants.{Open, Shut}
+use Rattle.gates.specs.declared.Gate.{Gate}
+use Rattle.gates.specs.declared.Gate.the-variants.{Open, Shut}
 
 -- "3: mark 165, in any image call but recover and format"
 unfoldable pub byHead : Head → Gate → Gate

@@ -1,9 +1,9 @@
 use native.Mathlib.Omega.{arith}
-use Rattle.index.specs.MergesLaws.{fitted-not, fitted-all}
+use Rattle.reads.specs.MergesLaws.{fitted-not, fitted-all}
 use Rattle.records.specs.Records.{decode, merge}
 use borrow.Author.Needs.{needs}
-use Rattle.index.proofs.merge_lists.Statement.{statement}
-use Rattle.index.proofs.merge_lists.Tie as tie
+use Rattle.reads.proofs.merge_lists.Statement.{statement}
+use Rattle.reads.proofs.merge_lists.Tie as tie
 
 merge-count-requires : tie.Need-merge-count-requires
 merge-count-requires c κs = search needs

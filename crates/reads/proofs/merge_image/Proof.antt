@@ -1,17 +1,17 @@
 use mathlib.Core.Path.{sym, ap, _∙_}
-use Rattle.index.specs.GatesLaws.{image-open, lent-home, gated-open, gated-shut}
-use Rattle.index.specs.MergesLaws.{merged-is}
+use Rattle.gates.specs.GatesLaws.{image-open, lent-home, gated-open, gated-shut}
+use Rattle.reads.specs.MergesLaws.{merged-is}
 use mathlib.Core.List.{List}
 use Prim.Native.Nat.{ℕ}
 use Rattle.records.specs.declared.Record.{Record}
 use Rattle.records.specs.Records.{encode}
 use Rattle.home.specs.Sound.{sound, listOf}
 use Rattle.redo.specs.Image.{home}
-use Rattle.index.specs.Gates.{imageGate}
-use Rattle.index.specs.Merges.{fitted, filled, mergeImage, outImage}
+use Rattle.gates.specs.Gates.{imageGate}
+use Rattle.reads.specs.Merges.{fitted, filled, mergeImage, outImage}
 use borrow.Author.Needs.{needs}
-use Rattle.index.proofs.merge_image.Statement.{statement}
-use Rattle.index.proofs.merge_image.Tie as tie
+use Rattle.reads.proofs.merge_image.Statement.{statement}
+use Rattle.reads.proofs.merge_image.Tie as tie
 
 image-gate-requires : tie.Need-image-gate-requires
 image-gate-requires c κs = search needs

@@ -1,13 +1,13 @@
 use mathlib.Core.Path.{sym, ap, _∙_}
-use Rattle.index.specs.GatesLaws.{space-open, gated-open, gated-shut}
-use Rattle.index.specs.MergesLaws.{merged-is}
+use Rattle.gates.specs.GatesLaws.{space-open, gated-open, gated-shut}
+use Rattle.reads.specs.MergesLaws.{merged-is}
 use mathlib.Core.List.{List}
 use Rattle.records.specs.declared.Record.{Record}
-use Rattle.index.specs.Gates.{spaceGate}
-use Rattle.index.specs.Merges.{fitted, filled, mergeSpace, outSpace}
+use Rattle.gates.specs.Gates.{spaceGate}
+use Rattle.reads.specs.Merges.{fitted, filled, mergeSpace, outSpace}
 use borrow.Author.Needs.{needs}
-use Rattle.index.proofs.merge_space.Statement.{statement}
-use Rattle.index.proofs.merge_space.Tie as tie
+use Rattle.reads.proofs.merge_space.Statement.{statement}
+use Rattle.reads.proofs.merge_space.Tie as tie
 
 space-gate-requires : tie.Need-space-gate-requires
 space-gate-requires c κs = search needs

@@ -14,9 +14,9 @@ use Rattle.log.specs.Answers.{clear-ok}
 use Rattle.home.specs.Sound.{sized, sound}
 use Rattle.edits.specs.declared.Answer.{Answer}
 use Rattle.edits.specs.declared.Answer.the-variants.{Refused}
-use Rattle.index.specs.declared.Gate.{Gate}
-use Rattle.index.specs.declared.Gate.the-variants.{Open, Shut}
-use Rattle.index.specs.Gates.{byHead, imageGate, spaceGate, gatedAnswer, gatedBytes}
+use Rattle.gates.specs.declared.Gate.{Gate}
+use Rattle.gates.specs.declared.Gate.the-variants.{Open, Shut}
+use Rattle.gates.specs.Gates.{byHead, imageGate, spaceGate, gatedAnswer, gatedBytes}
 
 module _ (l : List ℕ) where
   pub gate-bad : (r : ℕ) → headOf l ≡ Bad r → Shut r ≡ imageGate l

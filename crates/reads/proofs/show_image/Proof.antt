@@ -1,16 +1,16 @@
 use mathlib.Core.Path.{sym, ap, _∙_}
-use Rattle.index.specs.GatesLaws.{image-open, lent-home}
-use Rattle.index.specs.ReadsLaws.{shown-open, shown-shut}
+use Rattle.gates.specs.GatesLaws.{image-open, lent-home}
+use Rattle.reads.specs.ReadsLaws.{shown-open, shown-shut}
 use mathlib.Core.List.{List}
 use Prim.Native.Nat.{ℕ}
 use Rattle.records.specs.Records.{encode}
 use Rattle.home.specs.Sound.{sound, listOf}
 use Rattle.redo.specs.Image.{home}
-use Rattle.index.specs.Gates.{imageGate}
-use Rattle.index.specs.Reads.{showImage}
+use Rattle.gates.specs.Gates.{imageGate}
+use Rattle.reads.specs.Reads.{showImage}
 use borrow.Author.Needs.{needs}
-use Rattle.index.proofs.show_image.Statement.{statement}
-use Rattle.index.proofs.show_image.Tie as tie
+use Rattle.reads.proofs.show_image.Statement.{statement}
+use Rattle.reads.proofs.show_image.Tie as tie
 
 image-gate-requires : tie.Need-image-gate-requires
 image-gate-requires c κs = search needs

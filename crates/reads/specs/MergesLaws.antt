@@ -16,7 +16,7 @@ use Rattle.home.specs.HomeLaws.{all-mem}
 use Rattle.home.specs.Sound.{Sound, sound, listOf}
 use Rattle.home.specs.SoundLaws.{t-sound, sound-zones}
 use Rattle.edits.specs.declared.Answer.the-variants.{Count, Refused}
-use Rattle.index.specs.Merges.{fitted, filled, mergedOf}
+use Rattle.reads.specs.Merges.{fitted, filled, mergedOf}
 
 -- lists of a sound home are rising and their values fit
 pub sound-listed : (h : List ℕ) (t : ℕ) → sound h ≡ true → Listed (listOf h t)

@@ -1,11 +1,11 @@
 use mathlib.Core.Path.{sym, _∙_}
-use Rattle.index.specs.GatesLaws.{space-open}
-use Rattle.index.specs.ReadsLaws.{shown-open, shown-shut}
-use Rattle.index.specs.Gates.{spaceGate}
-use Rattle.index.specs.Reads.{showSpace}
+use Rattle.gates.specs.GatesLaws.{space-open}
+use Rattle.reads.specs.ReadsLaws.{shown-open, shown-shut}
+use Rattle.gates.specs.Gates.{spaceGate}
+use Rattle.reads.specs.Reads.{showSpace}
 use borrow.Author.Needs.{needs}
-use Rattle.index.proofs.show_space.Statement.{statement}
-use Rattle.index.proofs.show_space.Tie as tie
+use Rattle.reads.proofs.show_space.Statement.{statement}
+use Rattle.reads.proofs.show_space.Tie as tie
 
 space-gate-requires : tie.Need-space-gate-requires
 space-gate-requires c κs = search needs

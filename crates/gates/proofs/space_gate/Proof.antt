@@ -1,9 +1,9 @@
 use mathlib.Core.Path.{sym, _∙_}
-use Rattle.index.specs.GatesLaws.{gate-length, gate-space, gate-spoiled}
+use Rattle.gates.specs.GatesLaws.{gate-length, gate-space, gate-spoiled}
 use borrow.Author.Tests.{not-true, not-false}
 use borrow.Author.Needs.{needs}
-use Rattle.index.proofs.space_gate.Statement.{statement}
-use Rattle.index.proofs.space_gate.Tie as tie
+use Rattle.gates.proofs.space_gate.Statement.{statement}
+use Rattle.gates.proofs.space_gate.Tie as tie
 
 sized-requires : tie.Need-sized-requires
 sized-requires c κs = search needs

@@ -1,8 +1,8 @@
 use mathlib.Core.Path.{sym, _∙_}
-use Rattle.index.specs.GatesLaws.{gate-bad, gate-committed, gate-sound, gate-unsound}
+use Rattle.gates.specs.GatesLaws.{gate-bad, gate-committed, gate-sound, gate-unsound}
 use borrow.Author.Needs.{needs}
-use Rattle.index.proofs.image_gate.Statement.{statement}
-use Rattle.index.proofs.image_gate.Tie as tie
+use Rattle.gates.proofs.image_gate.Statement.{statement}
+use Rattle.gates.proofs.image_gate.Tie as tie
 
 read-head-requires : tie.Need-read-head-requires
 read-head-requires c κs = search needs

@@ -1,16 +1,16 @@
 use mathlib.Core.Path.{sym, ap, _∙_}
-use Rattle.index.specs.GatesLaws.{image-open, lent-home}
-use Rattle.index.specs.ReadsLaws.{counted-open, counted-shut}
+use Rattle.gates.specs.GatesLaws.{image-open, lent-home}
+use Rattle.reads.specs.ReadsLaws.{counted-open, counted-shut}
 use mathlib.Core.List.{List}
 use Prim.Native.Nat.{ℕ}
 use lib.ListN.{length}
 use Rattle.home.specs.Sound.{sound, listOf}
 use Rattle.redo.specs.Image.{home}
-use Rattle.index.specs.Gates.{imageGate}
-use Rattle.index.specs.Reads.{countImage}
+use Rattle.gates.specs.Gates.{imageGate}
+use Rattle.reads.specs.Reads.{countImage}
 use borrow.Author.Needs.{needs}
-use Rattle.index.proofs.count_image.Statement.{statement}
-use Rattle.index.proofs.count_image.Tie as tie
+use Rattle.reads.proofs.count_image.Statement.{statement}
+use Rattle.reads.proofs.count_image.Tie as tie
 
 image-gate-requires : tie.Need-image-gate-requires
 image-gate-requires c κs = search needs

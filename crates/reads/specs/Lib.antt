@@ -1,0 +1,4 @@
+pub mod Reads
+pub mod ReadsLaws
+pub mod Merges
+pub mod MergesLaws
