@@ -26,6 +26,7 @@ pub mod HomeLaws
 pub mod SoundLaws
 pub mod DictionaryLaws
 pub mod EntriesLaws
+pub mod EmptyLaws
 pub mod LookupLaws
 pub mod Lookup
 pub mod LookupTurns

@@ -1,6 +1,6 @@
 -- The test of soundness says what it should, both ways.
 use mathlib.Core.Path.{_≡_, refl, sym, ap, ap₂, _∙_}
-use mathlib.Core.Bool.{true}
+use mathlib.Core.Bool.{true, false}
 use mathlib.Core.List.{List}
 use Prim.Native.Nat.{ℕ, _+_, _*_, _≤_}
 use native.Mathlib.Omega.{arith}
@@ -30,6 +30,10 @@ sound-pages h s = let e : length h ≡ 64 * (26 + s .pages) = ap length (s .byte
 
 pub sound-zones : (h : List ℕ) (s : Sound h) → decode h ≡ s .zones
 sound-zones h s = ap decode (s .bytes) ∙ decode-encode (s .pages) (s .zones) (s .valid) (s .high)
+
+pub sound-unsized : (h : List ℕ) → sized h ≡ false → sound h ≡ false
+unfolding sound
+sound-unsized h e = rw e
 
 pub t-sound : (h : List ℕ) → Tests (Sound h) (sound h)
 unfolding sound

@@ -1,14 +1,15 @@
 -- One turn of each loop over records in bytes.
 use mathlib.Core.Path.{_≡_, sym, ap, _∙_}
-use mathlib.Core.Bool.{Bool, true, false}
+use mathlib.Core.Bool.{Bool, true, false, _&&_}
 use mathlib.Core.List.{List, [], append-nil}
 use Prim.Native.Nat.{ℕ, _+_, _*_, _/_, _%_, _≤_, _<_}
 use native.Mathlib.Omega.{arith}
 use lib.ListN.{length, getD}
+use lib.Dec.{ltb}
 use Rattle.wire.specs.Bytes.{over}
-use Rattle.wire.specs.Cases.{by-lt}
+use Rattle.wire.specs.Cases.{by-lt, and-true, and-false}
 use Rattle.wire.specs.BytesLaws.{over-nil, over-append}
-use borrow.Author.Tests.{le-leb, lt-leb}
+use borrow.Author.Tests.{le-leb, lt-leb, lt-ltb, le-ltb}
 use Rattle.records.specs.declared.Record.{Record}
 use Rattle.records.specs.declared.Place.the-variants.{Found, Absent}
 use Rattle.records.specs.declared.Side.{Side}
@@ -37,14 +38,12 @@ rising-first l w last g e f =
     let k : last / 256 ≡ key (recordAt l (8 * 0)) = omega (arith, e, f) in
     rw k (rising-turn l 0 0 g (omega arith)) ∙ ap (risingFrom 0) (rest-all l)
 
-pub rising-next : (l : List ℕ) (last i w last' : ℕ) → i < length l / 8 → last % 256 ≡ 255 → last < w → w / 256 ≡ key (recordAt l (8 * i)) → last' ≡ 256 * (w / 256) + 255
-    → risingFrom (last' / 256 + 1) (rest l (i + 1)) ≡ risingFrom (last / 256 + 1) (rest l i)
-rising-next l last i w last' g m h e f =
-    let k : last' / 256 ≡ key (recordAt l (8 * i)) = omega (arith, e, f) in
-    rw k (rising-turn l (last / 256 + 1) i g (omega (arith, e)))
-
-pub rising-low : (l : List ℕ) (last i w : ℕ) → i < length l / 8 → w ≤ last → w / 256 ≡ key (recordAt l (8 * i)) → risingFrom (last / 256 + 1) (rest l i) ≡ false
-rising-low l last i w g h e = rising-stop l (last / 256 + 1) i g (omega (arith, e))
+pub rising-next : (ok : Bool) (l : List ℕ) (last i w last' : ℕ) → i < length l / 8 → last % 256 ≡ 255 → w / 256 ≡ key (recordAt l (8 * i)) → last' ≡ 256 * (w / 256) + 255
+    → (ok && ltb last w) && risingFrom (last' / 256 + 1) (rest l (i + 1)) ≡ ok && risingFrom (last / 256 + 1) (rest l i)
+rising-next ok l last i w last' g m e f = by-lt last w
+    (λ h. let k : last' / 256 ≡ key (recordAt l (8 * i)) = omega (arith, e, f) in
+    rw (lt-ltb last w h, and-true ok, k) (ap (λ (b : Bool). ok && b) (rising-turn l (last / 256 + 1) i g (omega (arith, e)))))
+    (λ h. rw (le-ltb last w h, and-false ok, rising-stop l (last / 256 + 1) i g (omega (arith, e)), and-false ok))
 
 pub rising-end : (l : List ℕ) (low i : ℕ) → length l / 8 ≤ i → risingFrom low (rest l i) ≡ true
 unfolding risingFrom

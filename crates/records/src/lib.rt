@@ -112,7 +112,7 @@ fn greatest(x: u64) -> u64
 }
 
 // Whether records are strictly rising by their primary parts. Whole records are compared, since one
-// read of 8 bytes takes less time than one of 7.
+// read of 8 bytes takes less time than one of 7, and without an early exit, which takes less too.
 pub fn rising(s: &[u8]) -> bool
     ensures { λ r. ⌜ r ≡ ordered (decode (now (s .entry))) ⌝ }
 {
@@ -120,17 +120,16 @@ pub fn rising(s: &[u8]) -> bool
     if n == 0 {
         return true;
     }
+    let mut ok = true;
     let mut last = greatest(whole_at(s, 0));
     let mut i = 1;
     while i < n {
         let next = whole_at(s, i);
-        if next <= last {
-            return false;
-        }
+        ok = ok & (last < next);
         last = greatest(next);
         i += 1;
     }
-    true
+    ok
 }
 
 // Finds a key in a rising list by halving.

@@ -1,6 +1,6 @@
 -- One turn of each loop that tests home, and the test of a dictionary entry by the block that it leads to.
-use mathlib.Core.Path.{_≡_, refl}
-use mathlib.Core.Bool.{Bool, true, false, _&&_, _||_}
+use mathlib.Core.Path.{_≡_, refl, ap}
+use mathlib.Core.Bool.{Bool, true, false, _&&_, _||_, and-assoc}
 use mathlib.Core.List.{List}
 use Prim.Native.Nat.{ℕ, zero, suc, _+_, _*_, _-_, _/_, _%_, _≤_, _<_}
 use native.Mathlib.Omega.{arith}
@@ -362,10 +362,6 @@ sized-rest h b = let e : leb 1 (pagesOf h) ≡ true = le-leb 1 (pagesOf h) (omeg
 -- ---- all of it
 
 module _ (h : List ℕ) (n : ℕ) (e : n ≡ get16 h 0) where
-  pub checked-length : sized h ≡ false → false ≡ checked h
-  unfolding checked
-  checked-length a = rw a
-
   pub checked-count : sized h ≡ true → 256 < n → false ≡ checked h
   unfolding checked
   checked-count a b = rw (← e, a, lt-leb n 256 b)
@@ -375,19 +371,18 @@ module _ (h : List ℕ) (n : ℕ) (e : n ≡ get16 h 0) where
   checked-gap a b g = rw (← e, a, le-leb n 256 b, g)
 
   module _ (a : sized h ≡ true) (b : n ≤ 256) (g : blank (part h 122 6) ≡ true) where
-    pub checked-zones : zonesFine h (8 * pagesOf h) 0 0 30 ≡ false → false ≡ checked h
-    unfolding checked
-    checked-zones z = rw (← e, a, le-leb n 256 b, g, z)
+    abbrev zones : Bool
+    zones = zonesFine h (8 * pagesOf h) 0 0 30 && eqb (manyIn h 0 30) n
 
-    pub checked-many : (m : ℕ) → m ≡ manyIn h 0 30 → zonesFine h (8 * pagesOf h) 0 0 30 ≡ true → (m ≡ n → ⊥) → false ≡ checked h
+    grouped : leb (get16 h 0) 256 && (blank (part h 122 6) && (zones && (tagsFine h 0 0 n && blank (part h (128 + 6 * n) (1536 - 6 * n))))) ≡ checked h
     unfolding checked
-    checked-many m em z q = rw (← e, a, le-leb n 256 b, g, z, ← em, ne-eqb m n q)
+    grouped = rw (← e, a) (ap (λ (x : Bool). leb n 256 && (blank (part h 122 6) && x)) (and-assoc (zonesFine h (8 * pagesOf h) 0 0 30) (eqb (manyIn h 0 30) n) (tagsFine h 0 0 n && blank (part h (128 + 6 * n) (1536 - 6 * n)))))
 
-    pub checked-tags : (m : ℕ) → m ≡ manyIn h 0 30 → zonesFine h (8 * pagesOf h) 0 0 30 ≡ true → m ≡ n → tagsFine h 0 0 n ≡ false → false ≡ checked h
-    unfolding checked
-    checked-tags m em z q t = rw (← e, a, le-leb n 256 b, g, z, ← em, eq-eqb m n q, t)
+    pub checked-zones : zones ≡ false → false ≡ checked h
+    checked-zones z = rw (← grouped, ← e, le-leb n 256 b, g, z)
 
-    pub checked-rest : (m : ℕ) → m ≡ manyIn h 0 30 → zonesFine h (8 * pagesOf h) 0 0 30 ≡ true → m ≡ n → tagsFine h 0 0 n ≡ true
-        → blank (part h (128 + 6 * n) (1536 - 6 * n)) ≡ checked h
-    unfolding checked
-    checked-rest m em z q t = rw (← e, a, le-leb n 256 b, g, z, ← em, eq-eqb m n q, t)
+    pub checked-tags : zones ≡ true → tagsFine h 0 0 n ≡ false → false ≡ checked h
+    checked-tags z t = rw (← grouped, ← e, le-leb n 256 b, g, z, t)
+
+    pub checked-rest : zones ≡ true → tagsFine h 0 0 n ≡ true → blank (part h (128 + 6 * n) (1536 - 6 * n)) ≡ checked h
+    checked-rest z t = rw (← grouped, ← e, le-leb n 256 b, g, z, t)

@@ -6,13 +6,14 @@ use home::classes::class_table;
 use home::lookup::zone_count;
 use home::lookup::zone_first;
 ghost use mathlib.Core.Path.{_≡_};
-ghost use mathlib.Core.Bool.{true};
+ghost use mathlib.Core.Bool.{true, _&&_};
 ghost use Prim.Native.Nat.{_+_, _*_, _≤_, _<_};
 ghost use lib.ListN.{length};
-ghost use Rattle.wire.specs.Bytes.{part, blank};
+ghost use lib.Dec.{eqb};
+ghost use Rattle.wire.specs.Bytes.{part, blank, get16};
 ghost use Rattle.records.specs.Records.{rising as ordered, records};
 ghost use Rattle.home.specs.Capacities.{capacity as capacityOf, under as underOf, cells as cellsOf, table};
-ghost use Rattle.home.specs.Bytes.{cellAt};
+ghost use Rattle.home.specs.Bytes.{cellAt, tagAt};
 ghost use Rattle.home.specs.Sound.{sized as sizedOf, sound as isSound};
 ghost use Rattle.sound.specs.Checks.{blockFine, blocksFine, zoneFine, endAt, zonesFine, manyIn, tagsFine};
 ghost use Rattle.sound.specs.CheckTurns.{leadsAt, entryFine};
@@ -126,35 +127,23 @@ fn zone_end(home: &[u8], c: usize, e: usize) -> usize
     zone_first(home, c) + many * cells(c)
 }
 
-// All zones, and the cells behind them.
-fn zones_fine(home: &[u8], area: usize) -> bool
+// All zones and the cells behind them, with n blocks in all.
+fn zones_fine(home: &[u8], area: usize, n: usize) -> bool
     requires { ⌜ cellAt area ≤ length (now home) ⌝ }
-    ensures { λ r. ⌜ r ≡ zonesFine (now (home .entry)) area 0 0 30 ⌝ }
+    ensures { λ r. ⌜ r ≡ zonesFine (now (home .entry)) area 0 0 30 && eqb (manyIn (now (home .entry)) 0 30) n ⌝ }
 {
+    let mut many = 0;
     let mut e = 0;
     let mut c = 0;
     while c < 30 {
         if !zone_fine(home, area, c, e) {
             return false;
         }
+        many += zone_count(home, c);
         e = zone_end(home, c, e);
         c += 1;
     }
-    zeros(home, 1664 + 8 * e, 8 * (area - e))
-}
-
-// How many blocks they have.
-fn blocks_in(home: &[u8]) -> usize
-    requires { ⌜ 1664 ≤ length (now home) ⌝ }
-    ensures { λ r. ⌜ r ≡ manyIn (now (home .entry)) 0 30 ⌝ }
-{
-    let mut n = 0;
-    let mut c = 0;
-    while c < 30 {
-        n += zone_count(home, c);
-        c += 1;
-    }
-    n
+    zeros(home, 1664 + 8 * e, 8 * (area - e)) & (many == n)
 }
 
 // Whether p is a block's first cell. The block there gives its class, so that one zone is looked at.
@@ -182,16 +171,15 @@ fn leads_at(home: &[u8], classes: &[u8], area: usize, p: usize) -> bool
     (p - first) % size == 0
 }
 
-// The i-th entry: no tag below `low`, and a block with its tag.
-fn entry_fine(home: &[u8], classes: &[u8], area: usize, low: u64, i: usize) -> bool
-    requires { ⌜ (i < 256) × (cellAt area ≤ length (now home)) × (now classes ≡ table) ⌝ }
+// The i-th entry, which has this tag: it is not below `low`, and leads to a block with it.
+fn entry_fine(home: &[u8], classes: &[u8], area: usize, low: u64, tag: u32, i: usize) -> bool
+    requires { ⌜ (i < 256) × (tag ≡ tagAt (now home) i) × (cellAt area ≤ length (now home)) × (now classes ≡ table) ⌝ }
     ensures { λ r. ⌜ r ≡ entryFine (now (home .entry)) area low i ⌝ }
 {
-    let tag = wire::get32(home, 128 + 6 * i);
-    let p = wire::get16(home, 128 + 6 * i + 4);
     if (tag as u64) < low {
         return false;
     }
+    let p = wire::get16(home, 128 + 6 * i + 4);
     if !leads_at(home, classes, area, p) {
         return false;
     }
@@ -206,10 +194,11 @@ fn tags_fine(home: &[u8], classes: &[u8], area: usize, n: usize) -> bool
     let mut low: u64 = 0;
     let mut i = 0;
     while i < n {
-        if !entry_fine(home, classes, area, low, i) {
+        let tag = wire::get32(home, 128 + 6 * i);
+        if !entry_fine(home, classes, area, low, tag, i) {
             return false;
         }
-        low = wire::get32(home, 128 + 6 * i) as u64 + 1;
+        low = tag as u64 + 1;
         i += 1;
     }
     true
@@ -227,25 +216,19 @@ pub fn sized(home: &[u8]) -> bool
     (pages <= 1024) & (n == 64 * (26 + pages))
 }
 
-// Whether bytes are a sound home.
-pub fn sound(home: &[u8]) -> bool
+// Whether a home of n tags is sound.
+fn tagged(home: &[u8], n: usize) -> bool
+    requires { ⌜ (sizedOf (now home) ≡ true) × (n ≡ get16 (now home) 0) ⌝ }
     ensures { λ r. ⌜ r ≡ isSound (now (home .entry)) ⌝ }
 {
-    if !sized(home) {
-        return false;
-    }
     let area = 8 * (home.len() / 64 - 26);
-    let n = wire::get16(home, 0);
     if 256 < n {
         return false;
     }
     if !zeros(home, 122, 6) {
         return false;
     }
-    if !zones_fine(home, area) {
-        return false;
-    }
-    if blocks_in(home) != n {
+    if !zones_fine(home, area, n) {
         return false;
     }
     let classes = class_table();
@@ -253,4 +236,19 @@ pub fn sound(home: &[u8]) -> bool
         return false;
     }
     zeros(home, 128 + 6 * n, 1536 - 6 * n)
+}
+
+// Whether bytes are a sound home. One without tags has zeros alone.
+pub fn sound(home: &[u8]) -> bool
+    ensures { λ r. ⌜ r ≡ isSound (now (home .entry)) ⌝ }
+{
+    if !sized(home) {
+        return false;
+    }
+    let n = wire::get16(home, 0);
+    if n == 0 {
+        wire::all_zero(home)
+    } else {
+        tagged(home, n)
+    }
 }

@@ -1,6 +1,6 @@
 -- Laws of runs of bytes and their numbers, most of them byte by byte.
 use mathlib.Core.Path.{_≡_, refl, sym, ap, ap₂, _∙_}
-use mathlib.Core.Bool.{Bool, true, false, _&&_}
+use mathlib.Core.Bool.{Bool, true, false, _&&_, and-assoc}
 use Prim.Native.Nat.{ℕ, zero, suc, _+_, _-_, _*_, _/_, _%_, _≤_, _<_, min}
 use native.Mathlib.Omega.{arith}
 use native.Mathlib.Nat.{add-zero, sub-zero, zero-sub, suc-sub-suc, le-of-suc-le-suc, div-div-eq-div-mul, div-add-mod'}
@@ -9,9 +9,10 @@ use mathlib.Core.List.{List, [], _∷_, _++_, append-assoc, append-nil}
 use lib.ListN.{length, take, drop, set, getD, replicate, length-take, length-drop, length-replicate, replicate-append-replicate, drop-of-length-le, take-append-drop}
 use lib.Seq.{getD-take, getD-drop, ext-getD, sets, sets-eq, drop-cons, drop-drop, take-add, take-suc, length-take-le}
 use lib.Dec.{eqb}
-use borrow.Author.Tests.{eq-eqb, eqb-true}
+use lib.Bits.{bitOr, or-add-and, and-le-l, and-le-r}
+use borrow.Author.Tests.{eq-eqb, ne-eqb, eqb-true}
 use Rattle.wire.specs.Bytes.{part, over, get16, get32, bytes16, bytes32, equal, blank}
-use Rattle.wire.specs.Cases.{by-test, both, never, and-true}
+use Rattle.wire.specs.Cases.{by-test, by-eq, both, never, and-true, and-false}
 
 -- ---- part
 
@@ -301,10 +302,17 @@ equal-end ok xs ys i g e = rw (drop-of-length-le xs {i = i} g, drop-of-length-le
 pub equal-length : (xs ys : List ℕ) → (length xs ≡ length ys → ⊥) → equal xs ys ≡ false
 equal-length xs ys f = by-test (equal xs ys) (λ e. absurd (f (ap length (equal-is xs ys e)))) (λ e. e)
 
-pub blank-step : (ok : Bool) (xs : List ℕ) (i : ℕ) → i < length xs → (ok && eqb (getD xs i 0) 0) && blank (drop (i + 1) xs) ≡ ok && blank (drop i xs)
+-- of two numbers in one, none has a digit where that has none
+or-zero : (a b : ℕ) → eqb (bitOr a b) 0 ≡ eqb a 0 && eqb b 0
+or-zero a b = by-eq a 0
+    (λ e. by-eq b 0
+    (λ f. rw (e, f))
+    (λ f. ne-eqb (bitOr a b) 0 (λ o. f (omega (arith, or-add-and a b, and-le-l a b))) ∙ sym (rw (ne-eqb b 0 f) (and-false (eqb a 0)))))
+    (λ e. ne-eqb (bitOr a b) 0 (λ o. e (omega (arith, or-add-and a b, and-le-r a b))) ∙ sym (rw (ne-eqb a 0 e)))
+
+pub blank-step : (seen : ℕ) (xs : List ℕ) (i : ℕ) → i < length xs → eqb (bitOr seen (getD xs i 0)) 0 && blank (drop (i + 1) xs) ≡ eqb seen 0 && blank (drop i xs)
 unfolding blank
-blank-step false xs i g = refl
-blank-step true xs i g = rw (add-one, drop-cons xs i 0 g)
+blank-step seen xs i g = rw (or-zero seen (getD xs i 0), add-one, drop-cons xs i 0 g) (and-assoc (eqb seen 0) (eqb (getD xs i 0) 0) (blank (drop (suc i) xs)))
 
 pub blank-end : (ok : Bool) (xs : List ℕ) (i : ℕ) → length xs ≤ i → ok && blank (drop i xs) ≡ ok
 unfolding blank

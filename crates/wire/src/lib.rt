@@ -136,15 +136,15 @@ pub fn equal(a: &[u8], b: &[u8]) -> bool
     ok
 }
 
-// Whether all bytes are zero, in the same way.
+// Whether all bytes are zero: all of them in one number, without an early exit either.
 pub fn all_zero(s: &[u8]) -> bool
     ensures { λ r. ⌜ r ≡ blank (now (s .entry)) ⌝ }
 {
-    let mut ok = true;
+    let mut seen = 0;
     let mut i = 0;
     while i < s.len() {
-        ok = ok & (s[i] == 0);
+        seen = seen | s[i];
         i += 1;
     }
-    ok
+    seen == 0
 }

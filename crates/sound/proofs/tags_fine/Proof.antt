@@ -18,15 +18,6 @@ abbrev μ-loop : tie.MeasureT-loop
 loop-holds : tie.Need-loop-holds Inv-loop μ-loop
 loop-holds c = (omega arith, rw sub-zero)
 
-entry-fine-requires : tie.Need-entry-fine-requires Inv-loop μ-loop
-entry-fine-requires c κs = (search needs, c .before .before .before .before .pre .1, c .before .before .before .before .pre .3)
-
-returns : tie.Need-returns Inv-loop μ-loop
-returns c =
-    let a = c .before .before .before .before .before .before .args in
-    let l = c .before .before .before .loop in
-    tags-stop (a .home .now) (a .area) (l .low) (l .i) (a .n) (c .before .before .before .before .before .before .pre .2) (search needs) (sym (c .before .entry-fine .ensures) ∙ not-true _ (c .if1 .taken)) ∙ l .inv .1
-
 mul-get32 : tie.Need-mul-get32 Inv-loop μ-loop
 mul-get32 c = search needs
 
@@ -35,6 +26,15 @@ add-get32 c = search needs
 
 get32-requires : tie.Need-get32-requires Inv-loop μ-loop
 get32-requires c κs = search needs
+
+entry-fine-requires : tie.Need-entry-fine-requires Inv-loop μ-loop
+entry-fine-requires c κs = (search needs, c .get32 .ensures, c .before .before .before .before .before .pre .1, c .before .before .before .before .before .pre .3)
+
+returns : tie.Need-returns Inv-loop μ-loop
+returns c =
+    let a = c .before .before .before .before .before .before .before .args in
+    let l = c .before .before .before .before .loop in
+    tags-stop (a .home .now) (a .area) (l .low) (l .i) (a .n) (c .before .before .before .before .before .before .before .pre .2) (search needs) (sym (c .before .entry-fine .ensures) ∙ not-true _ (c .if1 .taken)) ∙ l .inv .1
 
 cast-low : tie.Need-cast-low Inv-loop μ-loop
 cast-low c = search needs
@@ -52,10 +52,10 @@ loop-again : tie.Need-loop-again Inv-loop μ-loop
 loop-again c =
     let a = c .before .before .before .before .before .before .before .args in
     let l = c .before .before .before .before .loop in
-    (omega arith, rw (c .get32 .ensures) (tags-turn (a .home .now) (a .area) (l .low) (l .i) (a .n) (c .before .before .before .before .before .before .before .pre .2) (search needs) (sym (c .before .before .entry-fine .ensures) ∙ not-false _ (c .before .if1 .left)) ∙ l .inv .1))
+    (omega arith, rw (c .before .before .get32 .ensures) (tags-turn (a .home .now) (a .area) (l .low) (l .i) (a .n) (c .before .before .before .before .before .before .before .pre .2) (search needs) (sym (c .before .entry-fine .ensures) ∙ not-false _ (c .if1 .left)) ∙ l .inv .1))
 
 returns-2 : tie.Need-returns-2 Inv-loop μ-loop
-returns-2 c = tags-end (c .before .before .before .before .args .home .now) (c .before .loop .low) (c .before .loop .i) (c .before .before .before .before .args .n) (search needs) ∙ c .before .loop .inv .1
+returns-2 c = let a = c .before .before .before .before .args in let l = c .before .loop in tags-end (a .home .now) (l .low) (l .i) (a .n) (search needs) ∙ l .inv .1
 
 pub tags-fine-spec : {M : Type 1} → statement M
 tags-fine-spec =
@@ -64,11 +64,11 @@ tags-fine-spec =
     Inv-loop
     μ-loop
     loop-holds
-    entry-fine-requires
-    returns
     mul-get32
     add-get32
     get32-requires
+    entry-fine-requires
+    returns
     cast-low
     add-low
     add-i

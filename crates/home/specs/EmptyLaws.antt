@@ -1,0 +1,51 @@
+-- A home without tags is sound if and only if all its bytes are zero.
+use mathlib.Core.Path.{_≡_, refl, sym, ap, _∙_}
+use mathlib.Core.Bool.{true}
+use mathlib.Core.List.{List, [], _∷_}
+use Prim.Native.Nat.{ℕ, suc, _+_, _*_}
+use native.Mathlib.Omega.{arith}
+use lib.ListN.{length, replicate, replicate-append-replicate}
+use Rattle.wire.specs.Bytes.{get16, blank}
+use Rattle.wire.specs.BytesLaws.{blank-zeros, blank-is}
+use Rattle.wire.specs.Cases.{bool-iff}
+use Rattle.home.specs.Zones.{Zone, empty, from, blocks}
+use Rattle.home.specs.Perm.{single}
+use Rattle.home.specs.Layout.{Valid}
+use Rattle.home.specs.Bytes.{encode}
+use Rattle.home.specs.Sound.{pagesOf, sized, sound, Sound}
+use Rattle.home.specs.SoundLaws.{t-sized, t-sound, sound-encode}
+use Rattle.home.specs.EntriesLaws.{tag-count}
+
+unfoldable pub no-zones : List Zone
+no-zones = replicate 30 empty
+
+pub no-zones-bytes : (R : ℕ) → encode R no-zones ≡ replicate (64 * (26 + R)) 0
+unfolding no-zones encode
+no-zones-bytes R = let e : 1664 + 8 * (8 * R) ≡ 64 * (26 + R) = omega arith in replicate-append-replicate 1664 (8 * (8 * R)) 0 ∙ ap (λ (k : ℕ). replicate k 0) e
+
+pub no-zones-valid : (R : ℕ) → Valid (8 * R) no-zones
+unfolding no-zones blocks
+no-zones-valid R = record { classes = refl; laid = omega arith; distinct = single; few = omega arith }
+
+no-blocks : (zs : List Zone) → length (blocks zs) ≡ 0 → zs ≡ replicate (length zs) empty
+unfolding blocks
+no-blocks [] e = refl
+no-blocks (empty ∷ zs) e = ap (λ (l : List Zone). empty ∷ l) (no-blocks zs e)
+no-blocks (from f x xs ∷ zs) e = absurd (omega arith)
+
+zero-sound : (h : List ℕ) → sized h ≡ true → blank h ≡ true → sound h ≡ true
+zero-sound h s z =
+    let k = t-sized h .says s in
+    let e : h ≡ encode (pagesOf h) no-zones = blank-is h z ∙ ap (λ (n : ℕ). replicate n 0) (k .long) ∙ sym (no-zones-bytes (pagesOf h)) in
+    ap sound e ∙ sound-encode (pagesOf h) no-zones (k .low) (k .high) (no-zones-valid (pagesOf h))
+
+sound-zero : (h : List ℕ) → get16 h 0 ≡ 0 → sound h ≡ true → blank h ≡ true
+unfolding no-zones
+sound-zero h e t =
+    let s : Sound h = t-sound h .says t in
+    let n : length (blocks (s .zones)) ≡ 0 = sym (tag-count (s .pages) (s .zones) (s .valid) (s .high)) ∙ ap (λ (l : List ℕ). get16 l 0) (sym (s .bytes)) ∙ e in
+    let z : s .zones ≡ no-zones = no-blocks (s .zones) n ∙ ap (λ (k : ℕ). replicate k empty) (s .valid .classes) in
+    ap blank (s .bytes ∙ ap (encode (s .pages)) z ∙ no-zones-bytes (s .pages)) ∙ blank-zeros (64 * (26 + s .pages))
+
+pub no-tags : (h : List ℕ) → sized h ≡ true → get16 h 0 ≡ 0 → blank h ≡ sound h
+no-tags h s e = bool-iff (blank h) (sound h) (zero-sound h s) (sound-zero h e)
