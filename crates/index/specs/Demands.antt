@@ -4,7 +4,7 @@ use mathlib.Core.Bool.{true}
 use Prim.Native.Nat.{ℕ, zero, suc, _+_, _*_, _≤_, _<_}
 use native.Mathlib.Omega.{arith}
 use mathlib.Core.List.{List, [], _∷_}
-use lib.ListN.{length, getD, replicate, replicate-append-replicate}
+use lib.ListN.{length, getD}
 use borrow.Author.Tests.{lt-ltb}
 use Rattle.wire.specs.All.{All, more}
 use Rattle.wire.specs.Cases.{by-test, by-eq, never}
@@ -23,13 +23,12 @@ use Rattle.log.specs.FormatLaws.{format-done, empty-head, empty-mark, empty-hom
 use Rattle.log.specs.Book.{commit, seen, planOf, allowance, final}
 use Rattle.log.specs.Claim.{holds}
 use Rattle.log.specs.Kept.{completed}
-use Rattle.home.specs.Zones.{Zone, empty, blocks, find}
+use Rattle.home.specs.Zones.{blocks, find}
 use Rattle.home.specs.Edits.{Edited}
 use Rattle.home.specs.Bytes.{encode}
-use Rattle.home.specs.Perm.{single}
-use Rattle.home.specs.Layout.{Valid}
 use Rattle.home.specs.Sound.{sized, sound, listOf}
 use Rattle.home.specs.SoundLaws.{sound-encode, listOf-encode}
+use Rattle.home.specs.EmptyLaws.{no-zones, no-zones-bytes, no-zones-valid}
 use Rattle.edits.specs.declared.Answer.the-variants.{Count}
 use Rattle.edits.specs.Effects.{Effect, put-does, delete-does, set-does, drop-does}
 use Rattle.edits.specs.Edits.{told, putIn, deleteIn, setIn, dropIn, leaves}
@@ -153,17 +152,6 @@ module _ (l w : List ℕ) (n m : ℕ) (done : answer (commitPlan sound l w) n �
 
 -- ---- an index that format left
 
-no-zones : List Zone
-no-zones = replicate 30 empty
-
-zeros : (R : ℕ) → encode R no-zones ≡ replicate (64 * (26 + R)) 0
-unfolding no-zones encode
-zeros R = let e : 1664 + 8 * (8 * R) ≡ 64 * (26 + R) = omega arith in replicate-append-replicate 1664 (8 * (8 * R)) 0 ∙ ap (λ (k : ℕ). replicate k 0) e
-
-no-zones-valid : (R : ℕ) → Valid (8 * R) no-zones
-unfolding no-zones blocks
-no-zones-valid R = record { classes = refl; laid = omega arith; distinct = single; few = omega arith }
-
 -- it reads empty for every tag
 pub formatted-reads : (l : List ℕ) (L R n : ℕ) → inRange L R ≡ true → length l ≡ imageLength L R → imageLength L R + 1 ≤ n → (t : ℕ)
     → (countImage (after (formatPlan l L R) n l) t ≡ Count 0) × (showImage (after (formatPlan l L R) n l) t ≡ [])
@@ -171,7 +159,7 @@ unfolding no-zones blocks find recordBytes
 formatted-reads l L R n fits long g t =
     let x : List ℕ = emptyImage L R in
     let size = in-range L R fits in
-    let h : home x ≡ encode R no-zones = empty-home L R fits ∙ sym (zeros R) in
+    let h : home x ≡ encode R no-zones = empty-home L R fits ∙ sym (no-zones-bytes R) in
     let s : sound (home x) ≡ true = ap sound h ∙ sound-encode R no-zones (size .some-pages) (size .few-pages) (no-zones-valid R) in
     let e : listOf (home x) t ≡ [] = ap (λ (y : List ℕ). listOf y t) h ∙ listOf-encode R no-zones t (size .few-pages) (no-zones-valid R) ∙ none-found t in
     let r = image-reads x t (opens x (empty-head L R fits) (empty-mark L R fits) s) in
