@@ -29,10 +29,10 @@ use Rattle.home.specs.HomeLaws.{all-mem}
 use Rattle.home.specs.Bytes.{encode, decode, blockBytes, cellAt}
 use Rattle.home.specs.Sound.{sound, pagesOf, listOf}
 use Rattle.home.specs.SoundLaws.{sound-encode}
-use Rattle.zones.specs.HomeLaws.{Loose}
-use Rattle.zones.specs.StepLaws.{home-list-set}
-use Rattle.zones.specs.Room.{settled}
-use Rattle.zones.specs.CloseLaws.{decode-loose, pages-loose}
+use Rattle.moves.specs.HomeLaws.{Loose}
+use Rattle.moves.specs.StepLaws.{home-list-set}
+use Rattle.moves.specs.Room.{settled}
+use Rattle.moves.specs.CloseLaws.{decode-loose, pages-loose}
 use Rattle.zones.specs.SoundLaws.{valid-loose, sound-small, sound-some, sound-valid}
 use Rattle.zones.specs.Known.{Known}
 use Rattle.zones.specs.KnownLaws.{rewritten-there}

@@ -14,7 +14,7 @@ use Rattle.home.specs.declared.lookup.Slot.the-variants.{At}
 use Rattle.home.specs.Lookup.{slotOf}
 use Rattle.edits.specs.declared.Answer.{Answer}
 use Rattle.edits.specs.declared.Answer.the-variants.{Count, Refused}
-use Rattle.zones.specs.Room.{settled}
+use Rattle.moves.specs.Room.{settled}
 
 -- ---- the four edits
 

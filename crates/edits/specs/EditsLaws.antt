@@ -33,7 +33,7 @@ use Rattle.home.specs.Lookup.{slotOf}
 use Rattle.home.specs.LookupTurns.{list-none}
 use Rattle.home.specs.FindLaws.{find-none, lacks-has}
 use Rattle.edits.specs.declared.Answer.the-variants.{Count, Refused}
-use Rattle.zones.specs.Room.{settled}
+use Rattle.moves.specs.Room.{settled}
 use Rattle.zones.specs.SoundLaws.{sound-small, sound-valid}
 use Rattle.zones.specs.Place.{Placeable, placedIn}
 use Rattle.edits.specs.Lists.{setHere}

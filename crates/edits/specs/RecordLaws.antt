@@ -24,7 +24,7 @@ use Rattle.home.specs.EditsLaws.{length-insert, length-amend, remove-listed, am
 use Rattle.wire.specs.Bytes.{over}
 use Rattle.home.specs.Bytes.{encode, decode, blockBytes, cellAt}
 use Rattle.home.specs.Sound.{pagesOf, listOf}
-use Rattle.zones.specs.Room.{settled}
+use Rattle.moves.specs.Room.{settled}
 use Rattle.zones.specs.SoundLaws.{sound-valid}
 use Rattle.zones.specs.BlockLaws.{Lying}
 use Rattle.zones.specs.Place.{Placeable, placedIn}
