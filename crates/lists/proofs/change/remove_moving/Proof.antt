@@ -1,10 +1,10 @@
 use native.Mathlib.Omega.{arith}
-use Rattle.edits.specs.ListsLaws.{length-shrunk}
-use Rattle.edits.specs.ListedLaws.{listed-known, listed-most, listed-inside}
-use Rattle.edits.specs.RecordLaws.{front-is, ranked-under, out-placeable, out-moved}
+use Rattle.lists.specs.ListsLaws.{length-shrunk}
+use Rattle.lists.specs.ListedLaws.{listed-known, listed-most, listed-inside}
+use Rattle.lists.specs.RecordLaws.{front-is, ranked-under, out-placeable, out-moved}
 use borrow.Author.Needs.{needs}
-use Rattle.edits.proofs.change.remove_moving.Statement.{statement}
-use Rattle.edits.proofs.change.remove_moving.Tie as tie
+use Rattle.lists.proofs.change.remove_moving.Statement.{statement}
+use Rattle.lists.proofs.change.remove_moving.Tie as tie
 
 sub-end : tie.Need-sub-end
 sub-end c = search needs

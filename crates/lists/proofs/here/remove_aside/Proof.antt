@@ -1,8 +1,8 @@
 use native.Mathlib.Omega.{arith}
-use Rattle.edits.specs.ListsLaws.{copied-twice}
+use Rattle.lists.specs.ListsLaws.{copied-twice}
 use borrow.Author.Needs.{needs}
-use Rattle.edits.proofs.lists.remove_aside.Statement.{statement}
-use Rattle.edits.proofs.lists.remove_aside.Tie as tie
+use Rattle.lists.proofs.here.remove_aside.Statement.{statement}
+use Rattle.lists.proofs.here.remove_aside.Tie as tie
 
 mul-at : tie.Need-mul-at
 mul-at c = search needs

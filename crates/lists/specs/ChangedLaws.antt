@@ -37,8 +37,8 @@ use Rattle.zones.specs.SoundLaws.{valid-loose, sound-small, sound-some, sound-v
 use Rattle.zones.specs.Known.{Known}
 use Rattle.zones.specs.KnownLaws.{rewritten-there}
 use Rattle.zones.specs.Place.{Placeable, placedIn}
-use Rattle.edits.specs.Edits.{Listed, changed}
-use Rattle.edits.specs.ListedLaws.{listed-has, listed-known, listed-lying, listed-many}
+use Rattle.lists.specs.Listed.{Listed, changed}
+use Rattle.lists.specs.ListedLaws.{listed-has, listed-known, listed-lying, listed-many}
 
 -- ---- in its block
 

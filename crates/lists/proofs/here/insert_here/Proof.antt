@@ -5,11 +5,11 @@ use native.Mathlib.Omega.{arith}
 use Rattle.wire.specs.Bytes.{over, bytes16}
 use Rattle.wire.proofs.Part.{put-over}
 use Rattle.home.specs.Bytes.{cellAt}
-use Rattle.edits.specs.Lists.{listAt, grown, relisted, insertedHere}
-use Rattle.edits.specs.ListsLaws.{length-grown, inserted-lent}
+use Rattle.lists.specs.Lists.{listAt, grown, relisted, insertedHere}
+use Rattle.lists.specs.ListsLaws.{length-grown, inserted-lent}
 use borrow.Author.Needs.{needs}
-use Rattle.edits.proofs.lists.insert_here.Statement.{statement}
-use Rattle.edits.proofs.lists.insert_here.Tie as tie
+use Rattle.lists.proofs.here.insert_here.Statement.{statement}
+use Rattle.lists.proofs.here.insert_here.Tie as tie
 
 mul-at : tie.Need-mul-at
 mul-at c = search needs

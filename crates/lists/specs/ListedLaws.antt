@@ -21,9 +21,9 @@ use Rattle.home.specs.Sound.{sound, pagesOf, listOf}
 use Rattle.zones.specs.Known.{Known}
 use Rattle.zones.specs.KnownLaws.{find-there}
 use Rattle.zones.specs.BlockLaws.{Lying, known-lying, slot-has, slot-known}
-use Rattle.edits.specs.Lists.{listAt}
-use Rattle.edits.specs.ListsLaws.{block-list}
-use Rattle.edits.specs.Edits.{Listed}
+use Rattle.lists.specs.Lists.{listAt}
+use Rattle.lists.specs.ListsLaws.{block-list}
+use Rattle.lists.specs.Listed.{Listed}
 
 -- the list of a tag's block is what is found
 known-list : (R : ℕ) (h : List ℕ) (zs : List Zone) (t c p : ℕ) (k : Known R h zs t c p) → k .block .list ≡ find t (blocks zs)

@@ -3,17 +3,14 @@ use mathlib.Core.Path.{_≡_, refl, sym, ap, ap₂, _∙_, subst}
 use mathlib.Core.Bool.{true}
 use mathlib.Core.Logic.{_≢_}
 use mathlib.Core.Option.{Option, none, some, IsSome}
-use mathlib.Core.List.{List, [], _∷_, _++_, append-nil}
+use mathlib.Core.List.{List, [], _∷_, _++_}
 use Prim.Native.Nat.{ℕ, suc, _+_, _-_, _*_, _≤_, _<_}
 use native.Mathlib.Omega.{arith}
 use lib.ListN.{length, take}
 use lib.Seq.{take-at}
 use Rattle.records.specs.declared.Record.{Record}
-use Rattle.records.specs.Records.{key, held, rank, insert, remove, amend, up, inserted, bytesOf, encode as recordBytes}
+use Rattle.records.specs.Records.{key, held, rank, insert, remove, amend, encode as recordBytes}
 use Rattle.records.specs.Order.{remove-at, rank-length}
-use Rattle.records.specs.Moves.{length-up}
-use Rattle.records.specs.Cells.{length-bytesOf}
-use Rattle.wire.specs.BytesLaws.{over-whole}
 use Rattle.room.specs.Spans.{isSome}
 use Rattle.home.specs.Capacities.{cells, capacity, classOf}
 use Rattle.home.specs.CapacitiesLaws.{cells-is, class-holds}
@@ -28,11 +25,11 @@ use Rattle.moves.specs.Room.{settled}
 use Rattle.zones.specs.SoundLaws.{sound-valid}
 use Rattle.zones.specs.BlockLaws.{Lying}
 use Rattle.zones.specs.Place.{Placeable, placedIn}
-use Rattle.edits.specs.Lists.{listAt, grown, shrunk, insertedHere, removedHere, setHere}
-use Rattle.edits.specs.ListsLaws.{rank-held, length-remove, insert-aside-is, remove-aside-is, insert-here-is, remove-here-is, set-here-is}
-use Rattle.edits.specs.Edits.{Listed, Placed, Ranked, changed, without}
-use Rattle.edits.specs.ListedLaws.{listed-has, listed-lying, listed-many, listed-some, listed-most}
-use Rattle.edits.specs.ChangedLaws.{changed-here, changed-none, moved-placeable, moved-changed}
+use Rattle.lists.specs.Lists.{listAt, grown, shrunk, insertedHere, removedHere, setHere}
+use Rattle.lists.specs.ListsLaws.{rank-held, length-remove, insert-aside-is, remove-aside-is, insert-here-is, remove-here-is, set-here-is}
+use Rattle.lists.specs.Listed.{Listed, Placed, Ranked, changed, without}
+use Rattle.lists.specs.ListedLaws.{listed-has, listed-lying, listed-many, listed-some, listed-most}
+use Rattle.lists.specs.ChangedLaws.{changed-here, changed-none, moved-placeable, moved-changed}
 
 -- what was written to the front of a longer run
 pub front-is : (e : ℕ) (ys post v : List ℕ) → ys ≡ v → length v ≡ e → take (e - 0) (ys ++ post) ≡ v
@@ -168,9 +165,3 @@ set-changed h t p n j m k g =
     ap₂ (λ (x y : ℕ). setHere h p x y m) c (sym (k .rank))
     ∙ set-here-is h p (classOf n) (record { tag = t; list = rs }) (s .sits) (s .bytes) (s .inside) (k .key) m (k .held)
     ∙ changed-here h t p n (k .listed) (amend (k .key) m rs) (amend-listed (k .key) m rs g (proper h t p n (k .listed))) (omega (arith, l, listed-some h t p n (k .listed))) (ap classOf l)
-
--- ---- a list of one
-
-pub inserted-alone : (l : List ℕ) (r : Record) → length l ≡ 8 → inserted l 0 r ≡ recordBytes (r ∷ [])
-unfolding inserted recordBytes
-inserted-alone l r e = over-whole (up l (8 * 0)) (bytesOf r) (length-bytesOf r ∙ sym (length-up l (8 * 0) ∙ e)) ∙ sym (append-nil (bytesOf r))

@@ -1,10 +1,10 @@
 use mathlib.Core.Path.{sym, _∙_}
 use native.Mathlib.Omega.{arith}
-use Rattle.edits.specs.ListedLaws.{listed-known, listed-some, listed-most, listed-inside}
-use Rattle.edits.specs.RecordLaws.{ranked-under, out-last, out-here}
+use Rattle.lists.specs.ListedLaws.{listed-known, listed-some, listed-most, listed-inside}
+use Rattle.lists.specs.RecordLaws.{ranked-under, out-last, out-here}
 use borrow.Author.Needs.{needs}
-use Rattle.edits.proofs.change.remove_record.Statement.{statement}
-use Rattle.edits.proofs.change.remove_record.Tie as tie
+use Rattle.lists.proofs.change.remove_record.Statement.{statement}
+use Rattle.lists.proofs.change.remove_record.Tie as tie
 
 class-of-requires : tie.Need-class-of-requires
 class-of-requires c κs = omega (arith, listed-most _ _ _ _ (c .before .pre .listed))

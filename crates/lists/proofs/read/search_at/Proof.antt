@@ -1,9 +1,9 @@
 use mathlib.Core.Path.{ap, _∙_}
 use Rattle.records.specs.Records.{place as placeOf}
-use Rattle.edits.specs.ListedLaws.{part-records}
+use Rattle.lists.specs.ListedLaws.{part-records}
 use borrow.Author.Needs.{needs}
-use Rattle.edits.proofs.search_at.Statement.{statement}
-use Rattle.edits.proofs.search_at.Tie as tie
+use Rattle.lists.proofs.read.search_at.Statement.{statement}
+use Rattle.lists.proofs.read.search_at.Tie as tie
 
 mul-at : tie.Need-mul-at
 mul-at c = search needs

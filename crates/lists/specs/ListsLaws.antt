@@ -25,7 +25,7 @@ use Rattle.home.specs.BytesLaws.{part-join}
 use Rattle.home.specs.EditsLaws.{length-insert, length-amend}
 use Rattle.home.specs.HomeLaws.{block-starts, block-records}
 use Rattle.moves.specs.JoinLaws.{over-behind, over-ahead, part-behind, over-seam}
-use Rattle.edits.specs.Lists.{listAt, holding, grown, shrunk, relisted, insertedHere, removedHere, setHere}
+use Rattle.lists.specs.Lists.{listAt, holding, grown, shrunk, relisted, insertedHere, removedHere, setHere}
 
 -- ---- edits of a run of bytes: i records' bytes p, then the rest
 

@@ -6,11 +6,11 @@ use lib.ListN.{replicate, length-append}
 use Rattle.wire.specs.Bytes.{over, bytes16}
 use Rattle.wire.proofs.Part.{put-over}
 use Rattle.home.specs.Bytes.{cellAt}
-use Rattle.edits.specs.Lists.{listAt, shrunk, relisted, removedHere}
-use Rattle.edits.specs.ListsLaws.{length-shrunk, removed-lent}
+use Rattle.lists.specs.Lists.{listAt, shrunk, relisted, removedHere}
+use Rattle.lists.specs.ListsLaws.{length-shrunk, removed-lent}
 use borrow.Author.Needs.{needs}
-use Rattle.edits.proofs.lists.remove_here.Statement.{statement}
-use Rattle.edits.proofs.lists.remove_here.Tie as tie
+use Rattle.lists.proofs.here.remove_here.Statement.{statement}
+use Rattle.lists.proofs.here.remove_here.Tie as tie
 
 mul-at : tie.Need-mul-at
 mul-at c = search needs

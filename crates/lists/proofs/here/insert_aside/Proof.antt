@@ -1,8 +1,8 @@
 use native.Mathlib.Omega.{arith}
-use Rattle.edits.specs.ListsLaws.{inserted-copy}
+use Rattle.lists.specs.ListsLaws.{inserted-copy}
 use borrow.Author.Needs.{needs}
-use Rattle.edits.proofs.lists.insert_aside.Statement.{statement}
-use Rattle.edits.proofs.lists.insert_aside.Tie as tie
+use Rattle.lists.proofs.here.insert_aside.Statement.{statement}
+use Rattle.lists.proofs.here.insert_aside.Tie as tie
 
 mul-at : tie.Need-mul-at
 mul-at c = search needs

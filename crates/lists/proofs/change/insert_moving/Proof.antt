@@ -1,9 +1,9 @@
-use Rattle.edits.specs.ListsLaws.{length-grown}
-use Rattle.edits.specs.ListedLaws.{listed-known, listed-inside}
-use Rattle.edits.specs.RecordLaws.{front-is, placed-under, in-placeable, in-moved}
+use Rattle.lists.specs.ListsLaws.{length-grown}
+use Rattle.lists.specs.ListedLaws.{listed-known, listed-inside}
+use Rattle.lists.specs.RecordLaws.{front-is, placed-under, in-placeable, in-moved}
 use borrow.Author.Needs.{needs}
-use Rattle.edits.proofs.change.insert_moving.Statement.{statement}
-use Rattle.edits.proofs.change.insert_moving.Tie as tie
+use Rattle.lists.proofs.change.insert_moving.Statement.{statement}
+use Rattle.lists.proofs.change.insert_moving.Tie as tie
 
 add-end : tie.Need-add-end
 add-end c = search needs

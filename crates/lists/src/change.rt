@@ -1,7 +1,7 @@
 // A tag's list that changes with its block.
-use crate::lists::insert_aside;
-use crate::lists::remove_aside;
-use crate::lists::remove_here;
+use crate::here::insert_aside;
+use crate::here::remove_aside;
+use crate::here::remove_here;
 use home::classes::class_of;
 use records::Record;
 use zones::place::place;
@@ -17,7 +17,7 @@ ghost use Rattle.home.specs.Bytes.{decode};
 ghost use Rattle.home.specs.Sound.{pagesOf, listOf};
 ghost use Rattle.home.specs.Layout.{change};
 ghost use Rattle.room.specs.Spans.{isSome};
-ghost use Rattle.edits.specs.Edits.{Ranked, Placed, changed, without};
+ghost use Rattle.lists.specs.Listed.{Ranked, Placed, changed, without};
 
 // The list with a record put in at rank j goes to a block of another class, for which there is room. It is made aside.
 pub fn insert_moving(
