@@ -37,7 +37,7 @@ use Rattle.zones.specs.SoundLaws.{valid-loose, sound-small, sound-some, sound-v
 use Rattle.zones.specs.Known.{Known}
 use Rattle.zones.specs.KnownLaws.{rewritten-there}
 use Rattle.zones.specs.Place.{Placeable, placedIn}
-use Rattle.lists.specs.Listed.{Listed, changed}
+use Rattle.lists.specs.Listed.{Listed, Moving, changed}
 use Rattle.lists.specs.ListedLaws.{listed-has, listed-known, listed-lying, listed-many}
 
 -- ---- in its block
@@ -58,6 +58,9 @@ has-none : (t : ℕ) (bs : List Block) → Lacks t bs → hasTag t bs ≡ false
 unfolding hasTag
 has-none t [] h = refl
 has-none t (x ∷ xs) (more n h) = has-skip t x xs n ∙ has-none t xs h
+
+pub list-read : (rs : List Record) → Proper rs → (bs : List ℕ) → bs ≡ recordBytes rs → recordsIn bs ≡ rs
+list-read rs ok bs e = ap recordsIn e ∙ decode-encode rs (all-mem rs (ok .fits))
 
 -- where there is a layout, the old bytes do not matter
 settled-any : (R : ℕ) (h h' : List ℕ) (o : Option (List Zone)) → isSome o ≡ true → settled R h [] o ≡ settled R h' [] o
@@ -129,9 +132,9 @@ module _ (h : List ℕ) (t p n : ℕ) (l : Listed h t p n) where
       many = omega (arith, ap length e, length-encode rs)
 
       read : recordsIn bs ≡ rs
-      read = ap recordsIn e ∙ decode-encode rs (all-mem rs (ok .fits))
+      read = list-read rs ok bs e
 
-      pub moved-placeable : 0 < length rs → Placeable h' t bs
+      moved-placeable : 0 < length rs → Placeable h' t bs
       moved-placeable g = record {
         sound = ap sound q ∙ sound-encode R left (sound-some h (l .sound)) (sound-small h (l .sound)) (out .valid);
         new = ap (λ (z : List Zone). hasTag t (blocks z)) zones ∙ has-none t (blocks left) (out .gone);
@@ -143,7 +146,16 @@ module _ (h : List ℕ) (t p n : ℕ) (l : Listed h t p n) where
       }
 
       -- where there is room
-      pub moved-changed : (x : List ℕ) → 0 < length rs → classOf (length rs) ≢ classOf n → isSome (change (8 * R) t rs zs) ≡ true → x ≡ settled (pagesOf h') h' [] (placedIn h' t bs) → x ≡ changed h t rs
+      moved-changed : (x : List ℕ) → 0 < length rs → classOf (length rs) ≢ classOf n → isSome (change (8 * R) t rs zs) ≡ true → x ≡ settled (pagesOf h') h' [] (placedIn h' t bs) → x ≡ changed h t rs
       moved-changed x g d i y =
           let s : placedIn h' t bs ≡ change (8 * R) t rs zs = rw (read, many, pages, zones) (sym (other-class rs g d)) in
           y ∙ ap₂ (λ (m : ℕ) (o : Option (List Zone)). settled m h' [] o) pages s ∙ settled-any R h' h (change (8 * R) t rs zs) i
+
+module _ (h : List ℕ) (t p n : ℕ) (bs : List ℕ) (m : Moving h t p n bs) (h' : List ℕ) (q : h' ≡ encode (pagesOf h) (takeOut cells t 0 0 (decode h))) where
+  pub moving-placeable : Placeable h' t bs
+  moving-placeable = moved-placeable h t p n (m .listed) h' q (m .list) (m .proper) bs (m .bytes) (m .some)
+
+  pub moving-changed : (x : List ℕ) → x ≡ settled (pagesOf h') h' [] (placedIn h' t bs) → x ≡ changed h t (recordsIn bs)
+  moving-changed x y =
+      moved-changed h t p n (m .listed) h' q (m .list) (m .proper) bs (m .bytes) x (m .some) (m .class) (m .room) y
+      ∙ ap (changed h t) (sym (list-read (m .list) (m .proper) bs (m .bytes)))

@@ -9,7 +9,7 @@ use native.Mathlib.Omega.{arith}
 use lib.ListN.{length, take}
 use lib.Seq.{take-at}
 use Rattle.records.specs.declared.Record.{Record}
-use Rattle.records.specs.Records.{key, held, rank, insert, remove, amend, encode as recordBytes}
+use Rattle.records.specs.Records.{key, held, rank, insert, remove, amend, encode as recordBytes, decode as recordsIn}
 use Rattle.records.specs.Order.{remove-at, rank-length}
 use Rattle.room.specs.Spans.{isSome}
 use Rattle.home.specs.Capacities.{cells, capacity, classOf}
@@ -21,15 +21,13 @@ use Rattle.home.specs.EditsLaws.{length-insert, length-amend, remove-listed, am
 use Rattle.wire.specs.Bytes.{over}
 use Rattle.home.specs.Bytes.{encode, decode, blockBytes, cellAt}
 use Rattle.home.specs.Sound.{pagesOf, listOf}
-use Rattle.moves.specs.Room.{settled}
 use Rattle.zones.specs.SoundLaws.{sound-valid}
 use Rattle.zones.specs.BlockLaws.{Lying}
-use Rattle.zones.specs.Place.{Placeable, placedIn}
 use Rattle.lists.specs.Lists.{listAt, grown, shrunk, insertedHere, removedHere, setHere}
 use Rattle.lists.specs.ListsLaws.{rank-held, length-remove, insert-aside-is, remove-aside-is, insert-here-is, remove-here-is, set-here-is}
-use Rattle.lists.specs.Listed.{Listed, Placed, Ranked, changed, without}
+use Rattle.lists.specs.Listed.{Listed, Placed, Ranked, Moving, changed, without}
 use Rattle.lists.specs.ListedLaws.{listed-has, listed-lying, listed-many, listed-some, listed-most}
-use Rattle.lists.specs.ChangedLaws.{changed-here, changed-none, moved-placeable, moved-changed}
+use Rattle.lists.specs.ChangedLaws.{list-read, changed-here, changed-none}
 
 -- what was written to the front of a longer run
 pub front-is : (e : ℕ) (ys post v : List ℕ) → ys ≡ v → length v ≡ e → take (e - 0) (ys ++ post) ≡ v
@@ -96,14 +94,20 @@ module _ (h : List ℕ) (t p n j : ℕ) (k : Ranked h t p n j) where
   out-room = some-is (change (8 * pagesOf h) t (without j rs) (decode h))
       (shorter (8 * pagesOf h) t (decode h) (sound-valid h (k .listed .sound)) (lies .sits .tag) (without j rs) (listed-has h t p n (k .listed)) (omega (arith, left-many, many)))
 
-  module _ (h' bs : List ℕ) (q : h' ≡ encode (pagesOf h) (takeOut cells t 0 0 (decode h))) (e : bs ≡ shrunk h p n j) (g : 1 < n) where
-    pub out-placeable : Placeable h' t bs
-    out-placeable = moved-placeable h t p n (k .listed) h' q (without j rs) left-proper bs (e ∙ shrunk-is) (omega (arith, left-many))
+  module _ (bs : List ℕ) (e : bs ≡ shrunk h p n j) where
+    pub out-moving : 1 < n → classOf (n - 1) ≢ classOf n → Moving h t p n bs
+    out-moving g d = let f : length (without j rs) ≡ n - 1 = omega (arith, left-many) in record {
+      listed = k .listed;
+      list = without j rs;
+      proper = left-proper;
+      bytes = e ∙ shrunk-is;
+      some = omega arith;
+      class = λ u. d (ap classOf (sym f) ∙ u);
+      room = out-room;
+    }
 
-    pub out-moved : (x : List ℕ) → classOf (n - 1) ≢ classOf n → x ≡ settled (pagesOf h') h' [] (placedIn h' t bs) → x ≡ changed h t (without j rs)
-    out-moved x d y =
-        let f : length (without j rs) ≡ n - 1 = omega (arith, left-many) in
-        moved-changed h t p n (k .listed) h' q (without j rs) left-proper bs (e ∙ shrunk-is) x (omega (arith, left-many)) (λ u. d (ap classOf (sym f) ∙ u)) out-room y
+    pub out-moved : (x : List ℕ) → x ≡ changed h t (recordsIn bs) → x ≡ changed h t (without j rs)
+    out-moved x y = y ∙ ap (changed h t) (list-read (without j rs) left-proper bs (e ∙ shrunk-is))
 
 -- ---- put in
 
@@ -147,12 +151,20 @@ module _ (h : List ℕ) (t p n j : ℕ) (r : Record) (k : Placed h t p n j r) wh
     grown-is : grown h p n j r ≡ recordBytes new
     grown-is = ap₂ (λ (x y : ℕ). grown h p x y r) count (sym (k .rank)) ∙ insert-aside-is h p (classOf n) (record { tag = t; list = old }) (here .sits) (here .bytes) (here .inside) r
 
-    module _ (h' bs : List ℕ) (q : h' ≡ encode (pagesOf h) (takeOut cells t 0 0 (decode h))) (e : bs ≡ grown h p n j r) where
-      pub in-placeable : Placeable h' t bs
-      in-placeable = moved-placeable h t p n (k .listed) h' q new new-proper bs (e ∙ grown-is) (omega (arith, new-many))
+    module _ (bs : List ℕ) (e : bs ≡ grown h p n j r) where
+      pub in-moving : classOf (n + 1) ≢ classOf n → isSome (change (8 * pagesOf h) t new (decode h)) ≡ true → Moving h t p n bs
+      in-moving d i = record {
+        listed = k .listed;
+        list = new;
+        proper = new-proper;
+        bytes = e ∙ grown-is;
+        some = omega (arith, new-many);
+        class = λ u. d (ap classOf (sym new-many) ∙ u);
+        room = i;
+      }
 
-      pub in-moved : (x : List ℕ) → classOf (n + 1) ≢ classOf n → isSome (change (8 * pagesOf h) t new (decode h)) ≡ true → x ≡ settled (pagesOf h') h' [] (placedIn h' t bs) → x ≡ changed h t new
-      in-moved x d i y = moved-changed h t p n (k .listed) h' q new new-proper bs (e ∙ grown-is) x (omega (arith, new-many)) (λ u. d (ap classOf (sym new-many) ∙ u)) i y
+      pub in-moved : (x : List ℕ) → x ≡ changed h t (recordsIn bs) → x ≡ changed h t new
+      in-moved x y = y ∙ ap (changed h t) (list-read new new-proper bs (e ∙ grown-is))
 
 -- ---- its minutes set
 

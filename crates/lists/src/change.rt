@@ -11,13 +11,22 @@ ghost use mathlib.Core.Bool.{true};
 ghost use mathlib.Core.Logic.{_≢_};
 ghost use Prim.Native.Nat.{_+_, _-_, _*_, _≤_, _<_};
 ghost use lib.ListN.{length};
-ghost use Rattle.records.specs.Records.{insert as inserted};
+ghost use Rattle.records.specs.Records.{insert as inserted, decode as recordsIn};
 ghost use Rattle.home.specs.Capacities.{classOf};
 ghost use Rattle.home.specs.Bytes.{decode};
 ghost use Rattle.home.specs.Sound.{pagesOf, listOf};
 ghost use Rattle.home.specs.Layout.{change};
 ghost use Rattle.room.specs.Spans.{isSome};
-ghost use Rattle.lists.specs.Listed.{Ranked, Placed, changed, without};
+ghost use Rattle.lists.specs.Listed.{Ranked, Placed, Moving, changed, without};
+
+// The tag's list becomes this one, in a block of another class, for which there is room.
+fn move_list(home: &mut [u8], tag: u32, p: usize, n: usize, list: &[u8])
+    requires { ⌜ Moving (now home) tag p n (now list) ⌝ }
+    ensures { λ _. ⌜ now (home .exit) ≡ changed (now (home .entry)) tag (recordsIn (now (list .entry))) ⌝ }
+{
+    take_out(home, tag, class_of(n), p);
+    place(home, tag, list);
+}
 
 // The list with a record put in at rank j goes to a block of another class, for which there is room. It is made aside.
 pub fn insert_moving(
@@ -35,8 +44,7 @@ pub fn insert_moving(
 {
     let end = 8 * (n + 1);
     insert_aside(home, p, n, j, r, &mut aside[0..end]);
-    take_out(home, tag, class_of(n), p);
-    place(home, tag, &aside[0..end]);
+    move_list(home, tag, p, n, &aside[0..end]);
 }
 
 // The list without its record of rank j goes to a block of another class. There is always room.
@@ -46,8 +54,7 @@ fn remove_moving(home: &mut [u8], tag: u32, p: usize, n: usize, j: usize, aside:
 {
     let end = 8 * (n - 1);
     remove_aside(home, p, n, j, &mut aside[0..end]);
-    take_out(home, tag, class_of(n), p);
-    place(home, tag, &aside[0..end]);
+    move_list(home, tag, p, n, &aside[0..end]);
 }
 
 // The list loses its record of rank j. Its block goes with the last record, and changes class where the list does.

@@ -1,6 +1,6 @@
 use Rattle.lists.specs.ListsLaws.{length-grown}
-use Rattle.lists.specs.ListedLaws.{listed-known, listed-inside}
-use Rattle.lists.specs.RecordLaws.{front-is, placed-under, in-placeable, in-moved}
+use Rattle.lists.specs.ListedLaws.{listed-inside}
+use Rattle.lists.specs.RecordLaws.{front-is, placed-under, in-moving, in-moved}
 use borrow.Author.Needs.{needs}
 use Rattle.lists.proofs.change.insert_moving.Statement.{statement}
 use Rattle.lists.proofs.change.insert_moving.Tie as tie
@@ -23,23 +23,17 @@ part-insert-aside-end c = search needs
 insert-aside-requires : tie.Need-insert-aside-requires
 insert-aside-requires c κs = (placed-under _ _ _ _ _ _ (c .before .before .before .before .pre .0 .0), listed-inside _ _ _ _ (c .before .before .before .before .pre .0 .0 .listed), search needs)
 
-class-of-requires : tie.Need-class-of-requires
-class-of-requires c κs = search needs
+sub-move-list : tie.Need-sub-move-list
+sub-move-list c = search needs
 
-take-out-requires : tie.Need-take-out-requires
-take-out-requires c κs = rw (c .class-of .ensures) (listed-known _ _ _ _ (c .before .before .before .before .before .before .before .before .before .pre .0 .0 .listed))
+part-move-list-start : tie.Need-part-move-list-start
+part-move-list-start c = search needs
 
-sub-place : tie.Need-sub-place
-sub-place c = search needs
+part-move-list-end : tie.Need-part-move-list-end
+part-move-list-end c = search needs
 
-part-place-start : tie.Need-part-place-start
-part-place-start c = search needs
-
-part-place-end : tie.Need-part-place-end
-part-place-end c = search needs
-
-place-requires : tie.Need-place-requires
-place-requires c κs = in-placeable _ _ _ _ _ _ (c .before .before .before .before .before .before .before .before .before .before .before .before .before .before .before .pre .0 .0) (c .before .before .before .before .before .before .before .before .before .before .before .before .before .before .before .pre .0 .1) _ _ (c .before .before .before .before .before .take-out .ensures) (front-is _ _ _ _ (c .before .before .before .before .before .before .before .before .before .before .insert-aside .ensures) (length-grown _ _ _ _ _ (placed-under _ _ _ _ _ _ (c .before .before .before .before .before .before .before .before .before .before .before .before .before .before .before .pre .0 .0)) (listed-inside _ _ _ _ (c .before .before .before .before .before .before .before .before .before .before .before .before .before .before .before .pre .0 .0 .listed))))
+move-list-requires : tie.Need-move-list-requires
+move-list-requires c κs = in-moving _ _ _ _ _ _ (c .before .before .before .before .before .before .before .before .before .before .pre .0 .0) (c .before .before .before .before .before .before .before .before .before .before .pre .0 .1) _ (front-is _ _ _ _ (c .before .before .before .before .before .insert-aside .ensures) (length-grown _ _ _ _ _ (placed-under _ _ _ _ _ _ (c .before .before .before .before .before .before .before .before .before .before .pre .0 .0)) (listed-inside _ _ _ _ (c .before .before .before .before .before .before .before .before .before .before .pre .0 .0 .listed)))) (c .before .before .before .before .before .before .before .before .before .before .pre .0 .2) (c .before .before .before .before .before .before .before .before .before .before .pre .1)
 
 same-length : tie.Need-same-length
 same-length c = search needs
@@ -48,7 +42,7 @@ same-length-2 : tie.Need-same-length-2
 same-length-2 c = search needs
 
 returns : tie.Need-returns
-returns c = in-moved _ _ _ _ _ _ (c .before .before .before .before .before .before .before .before .before .before .before .before .before .before .before .before .before .before .pre .0 .0) (c .before .before .before .before .before .before .before .before .before .before .before .before .before .before .before .before .before .before .pre .0 .1) _ _ (c .before .before .before .before .before .before .before .before .take-out .ensures) (front-is _ _ _ _ (c .before .before .before .before .before .before .before .before .before .before .before .before .before .insert-aside .ensures) (length-grown _ _ _ _ _ (placed-under _ _ _ _ _ _ (c .before .before .before .before .before .before .before .before .before .before .before .before .before .before .before .before .before .before .pre .0 .0)) (listed-inside _ _ _ _ (c .before .before .before .before .before .before .before .before .before .before .before .before .before .before .before .before .before .before .pre .0 .0 .listed)))) _ (c .before .before .before .before .before .before .before .before .before .before .before .before .before .before .before .before .before .before .pre .0 .2) (c .before .before .before .before .before .before .before .before .before .before .before .before .before .before .before .before .before .before .pre .1) (c .before .before .place .ensures .1)
+returns c = in-moved _ _ _ _ _ _ (c .before .before .before .before .before .before .before .before .before .before .before .before .before .pre .0 .0) (c .before .before .before .before .before .before .before .before .before .before .before .before .before .pre .0 .1) _ (front-is _ _ _ _ (c .before .before .before .before .before .before .before .before .insert-aside .ensures) (length-grown _ _ _ _ _ (placed-under _ _ _ _ _ _ (c .before .before .before .before .before .before .before .before .before .before .before .before .before .pre .0 .0)) (listed-inside _ _ _ _ (c .before .before .before .before .before .before .before .before .before .before .before .before .before .pre .0 .0 .listed)))) _ (c .before .before .move-list .ensures)
 
 pub insert-moving-spec : {M : Type 1} → statement M
 insert-moving-spec =
@@ -60,12 +54,10 @@ insert-moving-spec =
     part-insert-aside-start
     part-insert-aside-end
     insert-aside-requires
-    class-of-requires
-    take-out-requires
-    sub-place
-    part-place-start
-    part-place-end
-    place-requires
+    sub-move-list
+    part-move-list-start
+    part-move-list-end
+    move-list-requires
     same-length
     same-length-2
     returns)
