@@ -1,22 +1,12 @@
 -- The edits of a sound home: what they answer, and the bytes that they leave.
-use mathlib.Core.Path.{_≡_}
-use mathlib.Core.Bool.{true, false}
-use mathlib.Core.List.{List, [], _++_}
-use Prim.Native.Nat.{ℕ, suc, _*_}
-use lib.ListN.{take, drop}
+use mathlib.Core.List.{List}
+use Prim.Native.Nat.{ℕ, _*_}
 use Rattle.records.specs.declared.Record.{Record}
-use Rattle.records.specs.Records.{Fits, key, look, held, rank}
-use Rattle.home.specs.Layout.{change}
 use Rattle.home.specs.Edits.{Answer as Result, count, refused, Edited, put, delete, setMinutes, dropTag}
-use Rattle.home.specs.Bytes.{encode, decode, countAt, placeAt}
-use Rattle.home.specs.Sound.{sound, pagesOf, listOf}
-use Rattle.home.specs.declared.lookup.Slot.the-variants.{At}
-use Rattle.home.specs.Lookup.{slotOf}
+use Rattle.home.specs.Bytes.{encode, decode}
+use Rattle.home.specs.Sound.{pagesOf}
 use Rattle.edits.specs.declared.Answer.{Answer}
 use Rattle.edits.specs.declared.Answer.the-variants.{Count, Refused}
-use Rattle.zones.specs.Room.{settled}
-
--- ---- the four edits
 
 -- an answer as the code gives it
 unfoldable pub told : Result → Answer
@@ -39,35 +29,3 @@ dropIn h t = dropTag (8 * pagesOf h) t (decode h)
 -- home's bytes after one
 abbrev pub leaves : List ℕ → Edited → List ℕ
 leaves h e = encode (pagesOf h) (e .layout)
-
--- ---- a list that becomes another
-
--- home's bytes once tag t's list is rs; as they were where there is no room
-abbrev pub changed : List ℕ → ℕ → List Record → List ℕ
-changed h t rs = settled (pagesOf h) h [] (change (8 * pagesOf h) t rs (decode h))
-
--- a list without its j-th record
-abbrev pub without : ℕ → List Record → List Record
-without j rs = take j rs ++ drop (suc j) rs
-
--- a sound home in which tag t has a block of n records at cell p
-pub record Listed (h : List ℕ) (t p n : ℕ) : Type 0 where
-  pub sound : sound h ≡ true
-  pub entry : ℕ
-  pub slot : slotOf h t ≡ At entry
-  pub cell : p ≡ placeAt h entry
-  pub count : n ≡ countAt h p
-
--- a record that is not among them would have rank j there
-pub record Placed (h : List ℕ) (t p n j : ℕ) (r : Record) : Type 0 where
-  pub listed : Listed h t p n
-  pub held : held (look (key r) (listOf h t)) ≡ false
-  pub rank : rank (key r) (listOf h t) ≡ j
-  pub fits : Fits r
-
--- one of them has rank j
-pub record Ranked (h : List ℕ) (t p n j : ℕ) : Type 0 where
-  pub listed : Listed h t p n
-  pub key : ℕ
-  pub held : held (look key (listOf h t)) ≡ true
-  pub rank : rank key (listOf h t) ≡ j

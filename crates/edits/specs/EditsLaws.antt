@@ -3,18 +3,21 @@ use mathlib.Core.Path.{_≡_, refl, sym, ap, _∙_, subst}
 use mathlib.Core.Bool.{true, false}
 use mathlib.Core.Logic.{_≢_}
 use mathlib.Core.Option.{Option, none, some}
-use mathlib.Core.List.{List, [], _∷_}
+use mathlib.Core.List.{List, [], _∷_, append-nil}
 use Prim.Native.Nat.{ℕ, suc, _+_, _-_, _*_, _/_, _<_}
 use native.Mathlib.Omega.{arith}
 use lib.Dec.{ltb}
 use lib.ListN.{length}
 use borrow.Author.Tests.{lt-ltb, le-ltb, le-leb, eq-eqb, ne-eqb}
 use Rattle.wire.specs.Bytes.{get16}
+use Rattle.wire.specs.BytesLaws.{over-whole}
 use Rattle.wire.specs.Cases.{by-test, never}
 use Rattle.wire.specs.All.{more, none as nothing}
 use Rattle.records.specs.declared.Record.{Record}
 use Rattle.records.specs.declared.Place.the-variants.{Found, Absent}
-use Rattle.records.specs.Records.{Fits, key, risingFrom, rising, look, held, rank, place as placeOf, insert, remove, amend, encode as recordBytes, decode as recordsIn}
+use Rattle.records.specs.Records.{Fits, key, risingFrom, rising, look, held, rank, place as placeOf, insert, remove, amend, up, inserted, bytesOf, encode as recordBytes, decode as recordsIn}
+use Rattle.records.specs.Moves.{length-up}
+use Rattle.records.specs.Cells.{length-bytesOf}
 use Rattle.records.specs.Edits.{length-encode, decode-encode}
 use Rattle.room.specs.Spans.{isSome, spans, roomS}
 use Rattle.room.specs.SpansLaws.{change-class, change-same}
@@ -33,13 +36,14 @@ use Rattle.home.specs.Lookup.{slotOf}
 use Rattle.home.specs.LookupTurns.{list-none}
 use Rattle.home.specs.FindLaws.{find-none, lacks-has}
 use Rattle.edits.specs.declared.Answer.the-variants.{Count, Refused}
-use Rattle.zones.specs.Room.{settled}
+use Rattle.moves.specs.Room.{settled}
 use Rattle.zones.specs.SoundLaws.{sound-small, sound-valid}
 use Rattle.zones.specs.Place.{Placeable, placedIn}
-use Rattle.edits.specs.Lists.{setHere}
-use Rattle.edits.specs.ListedLaws.{listed-has, listed-lying, listed-many}
-use Rattle.edits.specs.RecordLaws.{some-is, without-is, left-many, out-room, new-many, set-changed}
-use Rattle.edits.specs.Edits.{told, putIn, deleteIn, setIn, dropIn, leaves, changed, without, Listed, Placed, Ranked}
+use Rattle.lists.specs.Lists.{setHere}
+use Rattle.lists.specs.ListedLaws.{listed-has, listed-lying, listed-many}
+use Rattle.lists.specs.RecordLaws.{some-is, without-is, left-many, out-room, new-many, set-changed}
+use Rattle.lists.specs.Listed.{changed, without, Listed, Placed, Ranked}
+use Rattle.edits.specs.Edits.{told, putIn, deleteIn, setIn, dropIn, leaves}
 
 -- ---- what a search finds
 
@@ -186,6 +190,11 @@ module _ (h : List ℕ) (t p n j : ℕ) (r : Record) (k : Placed h t p n j r) wh
       keeps-some new (omega arith) (ap classOf m ∙ e)
 
 -- ---- of an unknown tag
+
+-- its list of one
+pub inserted-alone : (l : List ℕ) (r : Record) → length l ≡ 8 → inserted l 0 r ≡ recordBytes (r ∷ [])
+unfolding inserted recordBytes
+inserted-alone l r e = over-whole (up l (8 * 0)) (bytesOf r) (length-bytesOf r ∙ sym (length-up l (8 * 0) ∙ e)) ∙ sym (append-nil (bytesOf r))
 
 pub absent-new : (h : List ℕ) (t i : ℕ) → sound h ≡ true → slotOf h t ≡ AbsentTag i → hasTag t (blocks (decode h)) ≡ false
 unfolding listOf

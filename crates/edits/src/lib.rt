@@ -1,60 +1,33 @@
 // The edits of a sound workspace, in place: put, delete, set minutes and drop.
-mod change;
-mod lists;
-
-use change::insert_moving;
-use change::remove_record;
 use home::classes::class_of;
 use home::lookup::Slot;
 use home::lookup::find;
-use lists::insert_here;
-use lists::set_here;
+use lists::change::insert_moving;
+use lists::change::remove_record;
+use lists::here::insert_here;
+use lists::here::set_here;
+use lists::read::cell_of;
+use lists::read::count_of;
+use lists::read::search_at;
 use records::Place;
 use records::Record;
 use zones::take::take_out;
 ghost use mathlib.Core.Path.{_≡_};
 ghost use mathlib.Core.Bool.{true, false};
-ghost use Prim.Native.Nat.{_+_, _*_, _≤_, _<_};
+ghost use Prim.Native.Nat.{_+_, _*_, _<_};
 ghost use lib.ListN.{length};
-ghost use Rattle.records.specs.Records.{records as recordsAt, place as placeOf, rising};
 ghost use Rattle.home.specs.Capacities.{cells as sizeOf};
 ghost use Rattle.home.specs.Zones.{blocks, hasTag};
-ghost use Rattle.home.specs.Bytes.{decode, countAt, placeAt};
+ghost use Rattle.home.specs.Bytes.{decode};
 ghost use Rattle.home.specs.Sound.{sound, pagesOf};
 ghost use Rattle.room.specs.Spans.{spans, roomS};
-ghost use Rattle.edits.specs.Lists.{listAt};
-ghost use Rattle.edits.specs.Edits.{told, putIn, deleteIn, setIn, dropIn, leaves, Listed, Placed};
+ghost use Rattle.lists.specs.Listed.{Listed, Placed};
+ghost use Rattle.edits.specs.Edits.{told, putIn, deleteIn, setIn, dropIn, leaves};
 
 // What an edit answers: the list's record count afterwards, or refused with its number.
 pub enum Answer {
     Count(usize),
     Refused(u8),
-}
-
-// The cell of the block to which the i-th entry leads.
-fn cell_of(home: &[u8], i: usize) -> usize
-    requires { ⌜ (i < 256) × (1664 ≤ length (now home)) ⌝ }
-    ensures { λ r. ⌜ (r ≡ placeAt (now (home .entry)) i) × (r < 65536) ⌝ }
-{
-    wire::get16(home, 128 + 6 * i + 4)
-}
-
-// The record count of the block at cell p.
-fn count_of(home: &[u8], p: usize) -> usize
-    requires { ⌜ listAt p ≤ length (now home) ⌝ }
-    ensures { λ r. ⌜ (r ≡ countAt (now (home .entry)) p) × (r < 65536) ⌝ }
-{
-    wire::get16(home, 1664 + 8 * p + 4)
-}
-
-// Finds a key among the n records of the block at cell p.
-fn search_at(home: &[u8], p: usize, n: usize, key: u64) -> Place
-    requires { ⌜ (listAt p + 8 * n ≤ length (now home)) × (rising (recordsAt (now home) (listAt p) n) ≡ true) ⌝ }
-    ensures { λ r. ⌜ r ≡ placeOf key (recordsAt (now (home .entry)) (listAt p) n) ⌝ }
-{
-    let at = 1664 + 8 * p + 8;
-    let end = at + 8 * n;
-    records::search(&home[at..end], key)
 }
 
 // Whether a block of class d finds room once one of class c is taken out.

@@ -27,7 +27,7 @@ use Rattle.room.specs.Spans.{isSome}
 use Rattle.edits.specs.declared.Answer.{Answer}
 use Rattle.edits.specs.declared.Answer.the-variants.{Count, Refused}
 use Rattle.zones.specs.SoundLaws.{sound-valid}
-use Rattle.edits.specs.RecordLaws.{some-is}
+use Rattle.lists.specs.RecordLaws.{some-is}
 use Rattle.edits.specs.EditsLaws.{drop-some}
 use Rattle.edits.specs.Edits.{told, putIn, deleteIn, setIn, dropIn}
 use Rattle.gates.specs.declared.Gate.{Gate}

@@ -1,14 +1,17 @@
--- A tag's block in home.
+-- A tag's block in home, and home's bytes once it is taken out.
 use mathlib.Core.Path.{_≡_}
 use mathlib.Core.Bool.{false}
 use mathlib.Core.List.{List, _∷_, _++_}
 use Prim.Native.Nat.{ℕ, suc, _+_, _*_, _≤_}
-use lib.ListN.{length, take, drop}
+use lib.Dec.{ltb}
+use lib.ListN.{length, take, drop, replicate}
+use Rattle.wire.specs.Bytes.{pick, over}
 use Rattle.home.specs.Capacities.{cells}
 use Rattle.home.specs.Zones.{Block, Zone, empty, from, zone, blocks, hasTag, removed}
-use Rattle.home.specs.Bytes.{encode}
-use Rattle.zones.specs.HomeLaws.{Loose}
-use Rattle.zones.specs.Close.{zoneOf}
+use Rattle.home.specs.Bytes.{encode, cellAt}
+use Rattle.moves.specs.Moves.{moved}
+use Rattle.moves.specs.HomeLaws.{Loose}
+use Rattle.moves.specs.Close.{zoneOf}
 
 -- the bytes of a layout zs that is valid but for its gaps, in which tag t has a block of class c at cell p
 pub record Known (R : ℕ) (h : List ℕ) (zs : List Zone) (t c p : ℕ) : Type 0 where
@@ -40,3 +43,8 @@ lacking t (from f x xs) = zone f (removed t (x ∷ xs))
 unfoldable pub outBytes : ℕ → List Zone → ℕ → ℕ → List ℕ
 unfolding lacking
 outBytes R zs t c = encode R (take c zs ++ lacking t (zoneOf zs c) ∷ drop (suc c) zs)
+
+-- the place of the block of class c at cell p, filled by the zone's last one, or zero if it is that one
+unfoldable pub filled : List ℕ → ℕ → ℕ → ℕ → List ℕ
+unfolding moved
+filled h c last p = pick (ltb p last) (moved h c last p) (over h (cellAt p) (replicate (8 * cells c) 0))

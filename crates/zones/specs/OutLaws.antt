@@ -23,18 +23,18 @@ use Rattle.home.specs.Sound.{pagesOf}
 use Rattle.home.specs.Bytes.{row, spots, encode, decode, cellAt, firstAt, manyAt}
 use Rattle.home.specs.AreaLaws.{fit-le}
 use Rattle.home.specs.Lookup.{Ordered, indexOf}
-use Rattle.zones.specs.Moves.{Movable, zoned, moved, unentered, filled}
-use Rattle.zones.specs.SpotLaws.{spot}
-use Rattle.zones.specs.HomeLaws.{Loose, movable-without}
-use Rattle.zones.specs.Room.{endAfter, Stored}
-use Rattle.zones.specs.RoomLaws.{take-here, take-next, drop-next, zone-here, end-next}
-use Rattle.zones.specs.Close.{zoneOf, closedBytes, Open}
-use Rattle.zones.specs.CloseLaws.{decode-loose, pages-loose}
-use Rattle.zones.specs.Known.{Known, lacking, outBytes}
+use Rattle.moves.specs.Moves.{Movable, zoned, moved, unentered}
+use Rattle.moves.specs.SpotLaws.{spot}
+use Rattle.moves.specs.HomeLaws.{Loose, movable-without}
+use Rattle.moves.specs.Room.{endAfter, Stored}
+use Rattle.moves.specs.RoomLaws.{take-here, take-next, drop-next, zone-here, end-next}
+use Rattle.moves.specs.Close.{zoneOf, closedBytes, Open}
+use Rattle.moves.specs.CloseLaws.{decode-loose, pages-loose}
+use Rattle.zones.specs.Known.{Known, lacking, outBytes, filled}
 use Rattle.zones.specs.KnownLaws.{lacking-there, takeOut-there}
 use Rattle.zones.specs.BlockLaws.{Lying, known-spots, known-lying, others-of}
-use Rattle.zones.specs.StepLaws.{firstOf, manyOf, first-zone, many-zone, fill-spots, home-last-gone, home-place-filled}
-use Rattle.zones.specs.LooseLaws.{zone-at, zone-blocks, movable, length-loose, blocks-append, fit-above, fit-joined, fit-lower}
+use Rattle.moves.specs.StepLaws.{firstOf, manyOf, first-zone, many-zone, fill-spots, home-last-gone, home-place-filled}
+use Rattle.moves.specs.LooseLaws.{zone-at, zone-blocks, movable, length-loose, blocks-append, fit-above, fit-joined, fit-lower}
 
 -- the zone's other blocks: the last of those behind it first
 others : (pre : List Block) (b : Block) (post : List Block) → Perm (b ∷ (pre ++ turned post)) (pre ++ b ∷ post)

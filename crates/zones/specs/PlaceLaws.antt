@@ -31,15 +31,15 @@ use Rattle.home.specs.Bytes.{Entry, entries, dictionary, area, encode, decode, 
 use Rattle.home.specs.Sound.{pagesOf, sound}
 use Rattle.home.specs.SoundLaws.{encode-decode}
 use Rattle.home.specs.BytesLaws.{records-fit}
-use Rattle.zones.specs.Moves.{zoned, entered}
-use Rattle.zones.specs.StateLaws.{state, state-tags, state-ordered, state-written}
-use Rattle.zones.specs.HomeLaws.{Loose, length-zones, fine, encode-state}
-use Rattle.zones.specs.StepLaws.{firstOf, manyOf, home-placed}
-use Rattle.zones.specs.Room.{settled, above, endAfter, Stored, Ready, hasRoom, roomed}
+use Rattle.moves.specs.Moves.{zoned, entered}
+use Rattle.moves.specs.StateLaws.{state, state-tags, state-ordered, state-written}
+use Rattle.moves.specs.HomeLaws.{Loose, length-zones, fine, encode-state}
+use Rattle.moves.specs.StepLaws.{firstOf, manyOf, home-placed}
+use Rattle.moves.specs.Room.{settled, above, endAfter, Stored, Ready, hasRoom, roomed}
 use Rattle.room.specs.Spans.{isSome}
-use Rattle.zones.specs.LooseLaws.{zone-at, length-loose, fit-lower, fit-above, blocks-append, loose-joined, Shifted, shift-fit}
-use Rattle.zones.specs.RoomLaws.{some-map, failed, at-zone, take-here, take-next, drop-next, zone-here, end-next}
-use Rattle.zones.specs.CodeLaws.{open-small}
+use Rattle.moves.specs.LooseLaws.{zone-at, length-loose, fit-lower, fit-above, blocks-append, loose-joined, Shifted, shift-fit}
+use Rattle.moves.specs.RoomLaws.{some-map, failed, at-zone, take-here, take-next, drop-next, zone-here, end-next}
+use Rattle.moves.specs.CodeLaws.{open-small}
 use Rattle.zones.specs.SoundLaws.{sound-small, sound-valid, valid-loose, sound-loose, sound-ready}
 use Rattle.zones.specs.Place.{blockOf, firstWith, blockIn, placedIn, Placeable}
 

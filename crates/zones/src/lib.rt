@@ -1,6 +1,3 @@
-// Moving blocks: the code that works on a sound workspace's bytes in place.
-mod close;
-mod lift;
-mod moves;
+// Blocks placed and taken out in a sound workspace's bytes, in place.
 pub mod place;
 pub mod take;

@@ -1,11 +1,11 @@
 // A block placed.
-use crate::lift::make_room;
-use crate::moves::insert_entry;
-use crate::moves::set_zone;
 use home::classes::cells;
 use home::classes::class_of;
 use home::lookup::zone_count;
 use home::lookup::zone_first;
+use moves::insert_entry;
+use moves::lift::make_room;
+use moves::set_zone;
 ghost use mathlib.Core.Path.{_≡_};
 ghost use mathlib.Core.List.{[]};
 ghost use Prim.Native.Nat.{_+_, _*_, _≤_, _<_};
@@ -14,7 +14,7 @@ ghost use Rattle.wire.specs.Bytes.{over};
 ghost use Rattle.home.specs.Capacities.{cells as sizeOf};
 ghost use Rattle.home.specs.Bytes.{cellAt, decode};
 ghost use Rattle.home.specs.Sound.{pagesOf};
-ghost use Rattle.zones.specs.Room.{settled, endAfter, Stored};
+ghost use Rattle.moves.specs.Room.{settled, endAfter, Stored};
 ghost use Rattle.room.specs.Spans.{isSome};
 ghost use Rattle.zones.specs.Place.{blockOf, firstWith, placedIn, Placeable};
 

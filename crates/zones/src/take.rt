@@ -1,12 +1,12 @@
 // A block taken out.
-use crate::close::close_up;
-use crate::moves::move_block;
-use crate::moves::remove_entry;
-use crate::moves::set_zone;
 use crate::place::end_below;
 use home::classes::cells;
 use home::lookup::zone_count;
 use home::lookup::zone_first;
+use moves::close::close_up;
+use moves::move_block;
+use moves::remove_entry;
+use moves::set_zone;
 use room::first_if;
 ghost use mathlib.Core.Path.{_≡_};
 ghost use Prim.Native.Nat.{_+_, _*_, _≤_, _<_};
@@ -15,8 +15,8 @@ ghost use Rattle.home.specs.Capacities.{cells as sizeOf};
 ghost use Rattle.home.specs.Zones.{takeOut};
 ghost use Rattle.home.specs.Bytes.{cellAt, encode, decode};
 ghost use Rattle.home.specs.Sound.{pagesOf};
-ghost use Rattle.zones.specs.Moves.{Movable, filled};
-ghost use Rattle.zones.specs.Known.{Known, outBytes};
+ghost use Rattle.moves.specs.Moves.{Movable};
+ghost use Rattle.zones.specs.Known.{Known, filled, outBytes};
 
 // The place of a block of class c that is taken out: the zone's last block fills it, or it becomes zero if it is that one.
 fn fill_place(home: &mut [u8], c: usize, last: usize, p: usize)

@@ -1,6 +1,6 @@
 use mathlib.Core.Path.{sym, _∙_}
 use Rattle.home.specs.LookupTurns.{sound-ordered}
-use Rattle.edits.specs.ListedLaws.{entry-under, cell-inside, entry-listed}
+use Rattle.lists.specs.ListedLaws.{entry-under, cell-inside, entry-listed}
 use Rattle.edits.specs.EditsLaws.{absent-new, delete-unknown}
 use borrow.Author.Needs.{needs}
 use Rattle.edits.proofs.delete.Statement.{statement}

@@ -1,6 +1,6 @@
 use mathlib.Core.Path.{sym, ap, _∙_}
 use Rattle.records.specs.Records.{place as placeOf}
-use Rattle.edits.specs.ListedLaws.{listed-inside, listed-rising, listed-records, listed-some}
+use Rattle.lists.specs.ListedLaws.{listed-inside, listed-rising, listed-records, listed-some}
 use Rattle.edits.specs.EditsLaws.{found-held, absent-held, delete-none, delete-done}
 use borrow.Author.Needs.{needs}
 use Rattle.edits.proofs.delete_known.Statement.{statement}

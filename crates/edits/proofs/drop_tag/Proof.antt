@@ -1,9 +1,9 @@
 use mathlib.Core.Path.{sym, _∙_}
 use Rattle.home.specs.LookupTurns.{sound-ordered}
-use Rattle.edits.specs.ListedLaws.{entry-under, cell-inside, entry-listed, listed-known, listed-most}
+use Rattle.lists.specs.ListedLaws.{entry-under, cell-inside, entry-listed, listed-known, listed-most}
 use Rattle.edits.specs.EditsLaws.{absent-new, drop-done, drop-unknown}
 use native.Mathlib.Omega.{arith}
-use Rattle.edits.specs.ChangedLaws.{changed-none}
+use Rattle.lists.specs.ChangedLaws.{changed-none}
 use borrow.Author.Needs.{needs}
 use Rattle.edits.proofs.drop_tag.Statement.{statement}
 use Rattle.edits.proofs.drop_tag.Tie as tie

@@ -8,8 +8,8 @@ use Rattle.home.specs.CapacitiesLaws.{class-below}
 use Rattle.home.specs.Bytes.{decode}
 use Rattle.home.specs.Sound.{pagesOf}
 use Rattle.zones.specs.OutLaws.{known-long}
-use Rattle.edits.specs.ListedLaws.{listed-known, listed-most}
-use Rattle.edits.specs.RecordLaws.{placed-under, in-inside, in-here}
+use Rattle.lists.specs.ListedLaws.{listed-known, listed-most}
+use Rattle.lists.specs.RecordLaws.{placed-under, in-inside, in-here}
 use Rattle.edits.specs.EditsLaws.{put-full, put-done, put-no-room, put-room, put-keeps}
 use borrow.Author.Needs.{needs}
 use Rattle.edits.proofs.insert_record.Statement.{statement}

@@ -1,7 +1,7 @@
 use mathlib.Core.Path.{sym, ap₂, _∙_}
 use native.Mathlib.Omega.{arith}
 use Rattle.records.specs.Records.{key, place as placeOf}
-use Rattle.edits.specs.ListedLaws.{listed-inside, listed-rising, listed-records}
+use Rattle.lists.specs.ListedLaws.{listed-inside, listed-rising, listed-records}
 use Rattle.edits.specs.EditsLaws.{found-held, absent-held, put-held}
 use borrow.Author.Needs.{needs}
 use Rattle.edits.proofs.put_known.Statement.{statement}

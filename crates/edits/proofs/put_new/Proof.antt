@@ -1,8 +1,7 @@
 use mathlib.Core.Path.{refl, sym, _∙_}
 use native.Mathlib.Omega.{arith}
 use Rattle.home.specs.LookupTurns.{sound-ordered}
-use Rattle.edits.specs.RecordLaws.{inserted-alone}
-use Rattle.edits.specs.EditsLaws.{put-tags, new-placeable, new-done, new-no-room}
+use Rattle.edits.specs.EditsLaws.{inserted-alone, put-tags, new-placeable, new-done, new-no-room}
 use borrow.Author.Needs.{needs}
 use Rattle.edits.proofs.put_new.Statement.{statement}
 use Rattle.edits.proofs.put_new.Tie as tie

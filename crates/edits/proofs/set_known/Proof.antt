@@ -1,8 +1,8 @@
 use mathlib.Core.Path.{sym, ap, _∙_}
 use native.Mathlib.Omega.{arith}
 use Rattle.records.specs.Records.{place as placeOf}
-use Rattle.edits.specs.ListedLaws.{listed-inside, listed-rising, listed-records}
-use Rattle.edits.specs.RecordLaws.{ranked-under}
+use Rattle.lists.specs.ListedLaws.{listed-inside, listed-rising, listed-records}
+use Rattle.lists.specs.RecordLaws.{ranked-under}
 use Rattle.edits.specs.EditsLaws.{found-held, absent-held, set-none, set-done}
 use borrow.Author.Needs.{needs}
 use Rattle.edits.proofs.set_known.Statement.{statement}

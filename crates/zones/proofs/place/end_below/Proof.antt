@@ -1,6 +1,6 @@
 use native.Mathlib.Omega.{arith}
 use mathlib.Core.Path.{refl}
-use Rattle.zones.specs.CodeLaws.{end-small}
+use Rattle.moves.specs.CodeLaws.{end-small}
 use Rattle.zones.specs.PlaceLaws.{stored-long, Seeking, seek-next, seek-found, seek-done}
 use borrow.Author.Needs.{needs}
 use Rattle.zones.proofs.place.end_below.Statement.{statement}

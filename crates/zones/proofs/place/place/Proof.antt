@@ -10,9 +10,9 @@ use Rattle.home.proofs.classes.cells.Reads as cells-reads
 use Rattle.home.proofs.classes.class_of.Reads as class-of-reads
 use Rattle.home.proofs.lookup.zone_count.Reads as zone-count-reads
 use Rattle.home.proofs.lookup.zone_first.Reads as zone-first-reads
-use Rattle.zones.proofs.lift.make_room.Reads as make-room-reads
-use Rattle.zones.proofs.moves.insert_entry.Reads as insert-entry-reads
-use Rattle.zones.proofs.moves.set_zone.Reads as set-zone-reads
+use Rattle.moves.proofs.lift.make_room.Reads as make-room-reads
+use Rattle.moves.proofs.insert_entry.Reads as insert-entry-reads
+use Rattle.moves.proofs.set_zone.Reads as set-zone-reads
 use Rattle.zones.proofs.place.end_below.Reads as end-below-reads
 use Rattle.zones.proofs.place.first_with.Reads as first-with-reads
 use Rattle.zones.proofs.place.write_block.Reads as write-block-reads

@@ -1,0 +1,161 @@
+-- A tag's list that becomes another: in its block, in a block of another class, or in none.
+use mathlib.Core.Path.{_≡_, refl, sym, ap, ap₂, _∙_, subst}
+use mathlib.Core.Bool.{true, false}
+use mathlib.Core.Logic.{_≢_}
+use mathlib.Core.Option.{Option, none, some}
+use mathlib.Core.List.{List, [], _∷_, _++_}
+use Prim.Native.Nat.{ℕ, _+_, _*_, _/_, _<_}
+use native.Mathlib.Omega.{arith}
+use lib.ListN.{length}
+use borrow.Author.Tests.{eq-eqb, ne-eqb}
+use Rattle.wire.specs.Bytes.{over}
+use Rattle.wire.specs.All.{more}
+use Rattle.wire.specs.Cases.{never}
+use Rattle.records.specs.declared.Record.{Record}
+use Rattle.records.specs.Records.{encode as recordBytes, decode as recordsIn}
+use Rattle.records.specs.Edits.{length-encode, decode-encode}
+use Rattle.room.specs.Spans.{isSome}
+use Rattle.home.specs.Capacities.{cells, classOf}
+use Rattle.home.specs.CapacitiesLaws.{cells-pos}
+use Rattle.home.specs.Zones.{Block, Zone, zone, blocks, hasTag, find, place, takeOut, rewritten, change as changeBy}
+use Rattle.home.specs.Layout.{change}
+use Rattle.home.specs.Cases.{Holds}
+use Rattle.home.specs.FindLaws.{Lacks, has-skip}
+use Rattle.home.specs.PermLaws.{plength}
+use Rattle.home.specs.TakeLaws.{Taken, TakenOut, takeOut-taken, takeOut-valid}
+use Rattle.home.specs.ChangeLaws.{Changed, Listed as Proper}
+use Rattle.home.specs.EditsLaws.{changed as holds-changed, free-any}
+use Rattle.home.specs.HomeLaws.{all-mem}
+use Rattle.home.specs.Bytes.{encode, decode, blockBytes, cellAt}
+use Rattle.home.specs.Sound.{sound, pagesOf, listOf}
+use Rattle.home.specs.SoundLaws.{sound-encode}
+use Rattle.moves.specs.HomeLaws.{Loose}
+use Rattle.moves.specs.StepLaws.{home-list-set}
+use Rattle.moves.specs.Room.{settled}
+use Rattle.moves.specs.CloseLaws.{decode-loose, pages-loose}
+use Rattle.zones.specs.SoundLaws.{valid-loose, sound-small, sound-some, sound-valid}
+use Rattle.zones.specs.Known.{Known}
+use Rattle.zones.specs.KnownLaws.{rewritten-there}
+use Rattle.zones.specs.Place.{Placeable, placedIn}
+use Rattle.lists.specs.Listed.{Listed, Moving, changed}
+use Rattle.lists.specs.ListedLaws.{listed-has, listed-known, listed-lying, listed-many}
+
+-- ---- in its block
+
+rewritten-known : (R : ℕ) (h : List ℕ) (zs : List Zone) (t c p : ℕ) (k : Known R h zs t c p) (rs : List Record) → Loose R (rewritten t rs zs)
+    → over h (cellAt p) (blockBytes c (record { tag = t; list = rs })) ≡ encode R (rewritten t rs zs)
+rewritten-known R h zs t c p k rs v =
+    let b : Block = record { tag = t; list = rs } in
+    let e : rewritten t rs zs ≡ k .lower ++ zone (k .first) (k .before ++ b ∷ k .behind) ∷ k .higher =
+    ap (rewritten t rs) (k .is) ∙ rewritten-there t (k .block) (k .tag) (k .behind) (k .first) (k .before) (k .none-before) rs (k .lower) (k .higher) (k .none-lower) in
+    let q : k .first + length (k .before) * cells (length (k .lower)) ≡ p = ap (λ (d : ℕ). k .first + length (k .before) * cells d) (k .class) ∙ k .cell in
+    sym (ap (encode R) e
+    ∙ home-list-set R (k .pages) (k .lower) (k .first) (k .before) (k .block) b (k .behind) (k .higher) (k .tag) (subst (Loose R) (k .is) (k .loose)) (subst (Loose R) e v)
+    ∙ ap₂ (λ (x : List ℕ) (y : ℕ). over x (cellAt y) (blockBytes (length (k .lower)) b)) (sym (k .bytes ∙ ap (encode R) (k .is))) q
+    ∙ ap (λ (d : ℕ). over h (cellAt p) (blockBytes d b)) (k .class))
+
+has-none : (t : ℕ) (bs : List Block) → Lacks t bs → hasTag t bs ≡ false
+unfolding hasTag
+has-none t [] h = refl
+has-none t (x ∷ xs) (more n h) = has-skip t x xs n ∙ has-none t xs h
+
+pub list-read : (rs : List Record) → Proper rs → (bs : List ℕ) → bs ≡ recordBytes rs → recordsIn bs ≡ rs
+list-read rs ok bs e = ap recordsIn e ∙ decode-encode rs (all-mem rs (ok .fits))
+
+-- where there is a layout, the old bytes do not matter
+settled-any : (R : ℕ) (h h' : List ℕ) (o : Option (List Zone)) → isSome o ≡ true → settled R h [] o ≡ settled R h' [] o
+unfolding settled isSome
+settled-any R h h' none i = never i
+settled-any R h h' (some zs) i = refl
+
+module _ (h : List ℕ) (t p n : ℕ) (l : Listed h t p n) where
+  abbrev R : ℕ
+  R = pagesOf h
+
+  abbrev zs : List Zone
+  zs = decode h
+
+  small : t < 4294967296
+  small = listed-lying h t p n l .sits .tag
+
+  same-class : classOf (length (find t (blocks zs))) ≡ classOf n
+  unfolding listOf
+  same-class = ap classOf (sym (listed-many h t p n l))
+
+  keeps-class : (r : Record) (rs : List Record) → classOf (length (r ∷ rs)) ≡ classOf n → change (8 * R) t (r ∷ rs) zs ≡ some (rewritten t (r ∷ rs) zs)
+  unfolding changeBy
+  keeps-class r rs e = rw (listed-has h t p n l, eq-eqb (classOf (length (find t (blocks zs)))) (classOf (length (r ∷ rs))) (same-class ∙ sym e))
+
+  pub changed-here : (rs : List Record) → Proper rs → 0 < length rs → classOf (length rs) ≡ classOf n → over h (cellAt p) (blockBytes (classOf n) (record { tag = t; list = rs })) ≡ changed h t rs
+  unfolding settled
+  changed-here [] q g e = absurd (omega arith)
+  changed-here (r ∷ rs) q g e =
+      let k : change (8 * R) t (r ∷ rs) zs ≡ some (rewritten t (r ∷ rs) zs) = keeps-class r rs e in
+      let w : Changed cells classOf t (8 * R) (r ∷ rs) zs (rewritten t (r ∷ rs) zs) = subst (Holds (Changed cells classOf t (8 * R) (r ∷ rs) zs)) k
+      (holds-changed (8 * R) t zs (sound-valid h (l .sound)) small (r ∷ rs) q (free-any (8 * R) t zs (sound-valid h (l .sound)) small (r ∷ rs) (listed-has h t p n l))) in
+      rewritten-known R h zs t (classOf n) p (listed-known h t p n l) (r ∷ rs) (valid-loose R (rewritten t (r ∷ rs) zs) (w .valid)) ∙ sym (ap (settled R h []) k)
+
+  -- ---- in none
+
+  pub changed-none : encode R (takeOut cells t 0 0 zs) ≡ changed h t []
+  unfolding settled changeBy
+  changed-none = refl
+
+  -- ---- in a block of another class
+
+  other-class : (rs : List Record) → 0 < length rs → classOf (length rs) ≢ classOf n → change (8 * R) t rs zs ≡ place cells (8 * R) 0 0 (classOf (length rs)) (record { tag = t; list = rs }) (takeOut cells t 0 0 zs)
+  unfolding changeBy
+  other-class [] g e = absurd (omega arith)
+  other-class (r ∷ rs) g e = rw (listed-has h t p n l, ne-eqb (classOf (length (find t (blocks zs)))) (classOf (length (r ∷ rs))) (λ q. e (sym q ∙ same-class)))
+
+  module _ (h' : List ℕ) (q : h' ≡ encode R (takeOut cells t 0 0 zs)) where
+    abbrev left : List Zone
+    left = takeOut cells t 0 0 zs
+
+    out : TakenOut cells classOf t (8 * R) zs left
+    out = takeOut-valid cells classOf cells-pos t (8 * R) zs (sound-valid h (l .sound)) (listed-has h t p n l)
+
+    pages : pagesOf h' ≡ R
+    pages = ap pagesOf q ∙ pages-loose R (sound-small h (l .sound)) left (valid-loose R left (out .valid))
+
+    zones : decode h' ≡ left
+    zones = ap decode q ∙ decode-loose R (sound-small h (l .sound)) left (valid-loose R left (out .valid))
+
+    -- one block fewer
+    fewer : length (blocks left) < 256
+    fewer =
+        let k : Taken cells classOf t (8 * R) 0 0 (blocks zs) left = takeOut-taken cells classOf cells-pos t (8 * R) 0 0 zs (sound-valid h (l .sound) .laid) (listed-has h t p n l) in
+        omega (arith, plength (k .out .same), sound-valid h (l .sound) .few)
+
+    module _ (rs : List Record) (ok : Proper rs) (bs : List ℕ) (e : bs ≡ recordBytes rs) where
+      many : length bs / 8 ≡ length rs
+      many = omega (arith, ap length e, length-encode rs)
+
+      read : recordsIn bs ≡ rs
+      read = list-read rs ok bs e
+
+      moved-placeable : 0 < length rs → Placeable h' t bs
+      moved-placeable g = record {
+        sound = ap sound q ∙ sound-encode R left (sound-some h (l .sound)) (sound-small h (l .sound)) (out .valid);
+        new = ap (λ (z : List Zone). hasTag t (blocks z)) zones ∙ has-none t (blocks left) (out .gone);
+        few = rw zones fewer;
+        whole = omega (arith, ap length e, length-encode rs);
+        some = omega (arith, many);
+        most = omega (arith, many, ok .short);
+        rising = rw read (ok .rising);
+      }
+
+      -- where there is room
+      moved-changed : (x : List ℕ) → 0 < length rs → classOf (length rs) ≢ classOf n → isSome (change (8 * R) t rs zs) ≡ true → x ≡ settled (pagesOf h') h' [] (placedIn h' t bs) → x ≡ changed h t rs
+      moved-changed x g d i y =
+          let s : placedIn h' t bs ≡ change (8 * R) t rs zs = rw (read, many, pages, zones) (sym (other-class rs g d)) in
+          y ∙ ap₂ (λ (m : ℕ) (o : Option (List Zone)). settled m h' [] o) pages s ∙ settled-any R h' h (change (8 * R) t rs zs) i
+
+module _ (h : List ℕ) (t p n : ℕ) (bs : List ℕ) (m : Moving h t p n bs) (h' : List ℕ) (q : h' ≡ encode (pagesOf h) (takeOut cells t 0 0 (decode h))) where
+  pub moving-placeable : Placeable h' t bs
+  moving-placeable = moved-placeable h t p n (m .listed) h' q (m .list) (m .proper) bs (m .bytes) (m .some)
+
+  pub moving-changed : (x : List ℕ) → x ≡ settled (pagesOf h') h' [] (placedIn h' t bs) → x ≡ changed h t (recordsIn bs)
+  moving-changed x y =
+      moved-changed h t p n (m .listed) h' q (m .list) (m .proper) bs (m .bytes) x (m .some) (m .class) (m .room) y
+      ∙ ap (changed h t) (sym (list-read (m .list) (m .proper) bs (m .bytes)))

@@ -1,0 +1,84 @@
+-- A tag's list in a sound home: where its block lies, and what it holds.
+use mathlib.Core.Path.{_≡_, sym, ap, _∙_, subst}
+use mathlib.Core.Bool.{true}
+use mathlib.Core.List.{List}
+use Prim.Native.Nat.{ℕ, _+_, _-_, _*_, _≤_, _<_}
+use native.Mathlib.Omega.{arith}
+use lib.ListN.{length, take, drop}
+use Rattle.records.specs.declared.Record.{Record}
+use Rattle.records.specs.Records.{records, rising, decode as recordsIn}
+use Rattle.records.specs.Edits.{decode-part}
+use Rattle.wire.specs.BytesLaws.{part-of}
+use Rattle.home.specs.Capacities.{classOf}
+use Rattle.home.specs.CapacitiesLaws.{cells-most}
+use Rattle.home.specs.Zones.{Zone, blocks, hasTag, find}
+use Rattle.home.specs.Bytes.{decode, countAt, placeAt}
+use Rattle.home.specs.declared.lookup.Slot.the-variants.{At}
+use Rattle.home.specs.Lookup.{slotOf}
+use Rattle.home.specs.LookupLaws.{entry-held}
+use Rattle.home.specs.LookupTurns.{sound-ordered, slot-at}
+use Rattle.home.specs.Sound.{sound, pagesOf, listOf}
+use Rattle.zones.specs.Known.{Known}
+use Rattle.zones.specs.KnownLaws.{find-there}
+use Rattle.zones.specs.BlockLaws.{Lying, known-lying, slot-has, slot-known}
+use Rattle.lists.specs.Lists.{listAt}
+use Rattle.lists.specs.ListsLaws.{block-list}
+use Rattle.lists.specs.Listed.{Listed}
+
+-- the list of a tag's block is what is found
+known-list : (R : ℕ) (h : List ℕ) (zs : List Zone) (t c p : ℕ) (k : Known R h zs t c p) → k .block .list ≡ find t (blocks zs)
+known-list R h zs t c p k = sym (ap (λ (l : List Zone). find t (blocks l)) (k .is)
+    ∙ find-there t (k .block) (k .tag) (k .behind) (k .first) (k .before) (k .none-before) (k .lower) (k .higher) (k .none-lower))
+
+module _ (h : List ℕ) (t p n : ℕ) (l : Listed h t p n) where
+  abbrev list : List Record
+  list = listOf h t
+
+  pub listed-has : hasTag t (blocks (decode h)) ≡ true
+  listed-has = slot-has h (l .sound) t (l .entry) (l .slot)
+
+  pub listed-known : Known (pagesOf h) h (decode h) t (classOf n) p
+  listed-known = rw (l .count, l .cell) (slot-known h (l .sound) t (l .entry) (l .slot))
+
+  pub listed-lying : Lying h (classOf n) p (record { tag = t; list = list })
+  unfolding listOf
+  listed-lying =
+      let k : Known (pagesOf h) h (decode h) t (classOf n) p = listed-known in
+      let e : k .block .list ≡ list = known-list (pagesOf h) h (decode h) t (classOf n) p k in
+      let same : k .block ≡ record { tag = t; list = list } = λ i. record { tag = k .tag i; list = e i } in
+      subst (Lying h (classOf n) p) same (known-lying (pagesOf h) h (decode h) t (classOf n) p k)
+
+  pub listed-many : n ≡ length list
+  listed-many = l .count ∙ listed-lying .count
+
+  -- it has a record, and at most 989
+  pub listed-some : 0 < n
+  listed-some = omega (arith, listed-many, listed-lying .sits .some)
+
+  pub listed-most : n ≤ 989
+  listed-most = omega (arith, listed-many, listed-lying .sits .room, cells-most (classOf n))
+
+  pub listed-inside : listAt p + 8 * n ≤ length h
+  listed-inside = omega (arith, listed-many, listed-lying .sits .room, listed-lying .inside)
+
+  pub listed-records : records h (listAt p) n ≡ list
+  listed-records = ap (records h (listAt p)) listed-many ∙ block-list h p (classOf n) (record { tag = t; list = list }) (listed-lying .sits) (listed-lying .bytes) (listed-lying .inside)
+
+-- ---- found by the dictionary
+
+module _ (h : List ℕ) (t i : ℕ) (s : sound h ≡ true) (e : slotOf h t ≡ At i) where
+  pub entry-under : (i < 256) × (1664 ≤ length h)
+  entry-under = let o = sound-ordered h s in (omega (arith, o .few, slot-at h t i o e .0), o .long)
+
+  pub cell-inside : (p : ℕ) → p ≡ placeAt h i → listAt p ≤ length h
+  cell-inside p q = omega (arith, q, entry-held h i s (slot-at h t i (sound-ordered h s) e .0) .inside)
+
+  pub entry-listed : (p n : ℕ) → p ≡ placeAt h i → n ≡ countAt h p → Listed h t p n
+  entry-listed p n q c = record { sound = s; entry = i; slot = e; cell = q; count = c }
+
+-- the records of a part of home
+pub part-records : (h : List ℕ) (at n : ℕ) → at + 8 * n ≤ length h → recordsIn (take (at + 8 * n - at) (drop at h)) ≡ records h at n
+part-records h at n g = ap recordsIn (part-of h at (8 * n)) ∙ decode-part h at n g
+
+pub listed-rising : (h : List ℕ) (t p n : ℕ) → Listed h t p n → rising (records h (listAt p) n) ≡ true
+listed-rising h t p n l = rw (listed-records h t p n l) (listed-lying h t p n l .sits .rising)

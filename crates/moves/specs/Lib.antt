@@ -1,0 +1,15 @@
+pub mod Moves
+pub mod MovesLaws
+pub mod JoinLaws
+pub mod SpotLaws
+pub mod AreaLaws
+pub mod EntryLaws
+pub mod StateLaws
+pub mod HomeLaws
+pub mod StepLaws
+pub mod Room
+pub mod LooseLaws
+pub mod RoomLaws
+pub mod CodeLaws
+pub mod Close
+pub mod CloseLaws

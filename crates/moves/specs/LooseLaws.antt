@@ -1,0 +1,147 @@
+-- Layouts that are valid but for their gaps: their zones and entries read off the bytes, and zones exchanged.
+use mathlib.Core.Path.{_≡_, refl, sym, ap, _∙_, subst}
+use mathlib.Core.List.{List, [], _∷_, _++_, map, append-assoc}
+use Prim.Native.Nat.{ℕ, zero, suc, _+_, _*_, _≤_, _<_}
+use native.Mathlib.Omega.{arith}
+use lib.Dec.{leb}
+use lib.ListN.{length, getD, replicate, length-append}
+use borrow.Author.Tests.{leb-true, leb-false}
+use Rattle.home.specs.Capacities.{cells}
+use Rattle.home.specs.CapacitiesLaws.{cells-mono}
+use Rattle.home.specs.Zones.{Block, Zone, empty, from, zone, blocks, lifted, endOf, shift}
+use Rattle.home.specs.Perm.{Perm, pnil, pskip, ptrans, Pairs, after}
+use Rattle.home.specs.PermLaws.{prefl, psym, pleft, pright, protate, plength, pall, ppairs}
+use Rattle.home.specs.Valid.{Other}
+use Rattle.home.specs.Layout.{Sits, Fit}
+use Rattle.home.specs.Cases.{by-pick, Holds, holds-map}
+use Rattle.home.specs.PlaceLaws.{length-snoc}
+use Rattle.home.specs.Bytes.{Spot, spots, Entry, entryOf, sorted, dictionary, padded, entries, area, encode, firstAt, manyAt}
+use Rattle.home.specs.AreaLaws.{length-area}
+use Rattle.home.specs.HomeLaws.{Entries, entries-read, encode-entries}
+use Rattle.home.specs.DictionaryLaws.{Below, dictionary-rising}
+use Rattle.moves.specs.Moves.{Movable}
+use Rattle.moves.specs.JoinLaws.{join-length}
+use Rattle.moves.specs.EntryLaws.{Parted, kept, sorted-one}
+use Rattle.moves.specs.StateLaws.{state, Fine, ld, state-movable}
+use Rattle.moves.specs.StepLaws.{firstOf, manyOf}
+use Rattle.moves.specs.Room.{endAfter}
+use Rattle.moves.specs.HomeLaws.{Loose, length-zones, fine, encode-state, area-bears, others, dictionary-as}
+
+-- ---- zones' entries
+
+entry-at : (h : List ℕ) (i : ℕ) (zs : List Zone) (k : ℕ) → Entries h i zs → k < length zs → (firstAt h (i + k) ≡ firstOf (getD zs k empty)) × (manyAt h (i + k) ≡ manyOf (getD zs k empty))
+unfolding firstOf manyOf
+entry-at h i [] k d g = absurd (omega arith)
+entry-at h i (empty ∷ zs) zero d g = let e : i + 0 ≡ i = omega arith in rw e (d .0, d .1)
+entry-at h i (from f x xs ∷ zs) zero d g = let e : i + 0 ≡ i = omega arith in rw e (d .0, d .1)
+entry-at h i (empty ∷ zs) (suc k) d g = let e : i + suc k ≡ suc i + k = omega arith in rw e (entry-at h (suc i) zs k (d .2) (omega arith))
+entry-at h i (from f x xs ∷ zs) (suc k) d g = let e : i + suc k ≡ suc i + k = omega arith in rw e (entry-at h (suc i) zs k (d .2) (omega arith))
+
+module _ (R : ℕ) (small : R ≤ 1024) (zs : List Zone) (v : Loose R zs) where
+  abbrev es : List ℕ
+  es = entries zs
+
+  abbrev a : List ℕ
+  a = area (8 * R) zs
+
+  abbrev ds : List Entry
+  ds = dictionary zs
+
+  pub length-loose : length (encode R zs) ≡ 1664 + 64 * R
+  length-loose = ap length (encode-state R small zs v)
+      ∙ join-length (length ds) es (padded ds) a (length-zones R small zs v) (ld es a (length-zones R small zs v) ds (fine R small zs v)) ∙ omega (arith, length-area (8 * R) zs)
+
+  pub entries-loose : Entries (encode R zs) 0 zs
+  entries-loose = entries-read (8 * R) 0 0 zs (encode R zs) (replicate 6 0 ++ (padded (dictionary zs) ++ area (8 * R) zs)) (omega arith) (v .fit) (encode-entries R zs)
+
+  pub zone-at : (c : ℕ) → c < 30 → (firstAt (encode R zs) c ≡ firstOf (getD zs c empty)) × (manyAt (encode R zs) c ≡ manyOf (getD zs c empty))
+  zone-at c g = let e : 0 + c ≡ c = omega arith in rw e at (entry-at (encode R zs) 0 zs c entries-loose (omega (arith, v .classes)))
+
+  pub movable : (s : Spot) (ss : List Spot) → Perm (spots 0 zs) (s ∷ ss) → Movable (encode R zs) (s .cell)
+  movable s ss p =
+      let le : length es ≡ 120 = length-zones R small zs v in
+      let ok = fine R small zs v in
+      let x : Entry = entryOf s in
+      let k : Parted (x .tag) (sorted (map entryOf ss)) = kept x (map entryOf ss) (others R small zs v (s ∷ ss) p) in
+      let d : ds ≡ k .pre ++ x ∷ k .post = dictionary-as R small zs v (s ∷ ss) p ∙ sorted-one x (map entryOf ss) k in
+      subst (λ (h : List ℕ). Movable h (s .cell)) (sym (encode-state R small zs v ∙ ap (λ (l : List Entry). state es l a) d))
+      (state-movable es le (k .pre) (k .post) a (x .tag) (k .low) (k .high) x (s .cell) refl (subst Fine d ok) (subst (Pairs Below) d (dictionary-rising zs (v .distinct))) (area-bears R small zs v s ss p))
+
+-- ---- higher zones exchanged
+
+pub fit-lower : (n c e e' : ℕ) (zs : List Zone) → e' ≤ e → Fit n c e zs → Fit n c e' zs
+fit-lower n c e e' [] g h = omega arith
+fit-lower n c e e' (empty ∷ zs) g h = fit-lower n (suc c) e e' zs g h
+fit-lower n c e e' (from f x xs ∷ zs) g h = (record { after = omega (arith, h .0 .after); sit = h .0 .sit }, h .1)
+
+pub fit-above : (n c e k : ℕ) (ls hs : List Zone) → k ≡ c + length ls → Fit n c e (ls ++ hs) → Fit n k (endAfter c e ls) hs
+unfolding endAfter
+fit-above n c e k [] hs q h = let p : c ≡ k = omega arith in subst (λ (d : ℕ). Fit n d e hs) p h
+fit-above n c e k (empty ∷ ls) hs q h = fit-above n (suc c) e k ls hs (omega arith) h
+fit-above n c e k (from f x xs ∷ ls) hs q h = fit-above n (suc c) (f + suc (length xs) * cells c) k ls hs (omega arith) (h .1)
+
+pub fit-joined : (n c e k : ℕ) (ls hs hs' : List Zone) → k ≡ c + length ls → Fit n c e (ls ++ hs) → Fit n k (endAfter c e ls) hs' → Fit n c e (ls ++ hs')
+unfolding endAfter
+fit-joined n c e k [] hs hs' q h h' = let p : k ≡ c = omega arith in subst (λ (d : ℕ). Fit n d e hs') p h'
+fit-joined n c e k (empty ∷ ls) hs hs' q h h' = fit-joined n (suc c) e k ls hs hs' (omega arith) h h'
+fit-joined n c e k (from f x xs ∷ ls) hs hs' q h h' = (h .0, fit-joined n (suc c) (f + suc (length xs) * cells c) k ls hs hs' (omega arith) (h .1) h')
+
+pub blocks-append : (ls hs : List Zone) → blocks (ls ++ hs) ≡ blocks ls ++ blocks hs
+unfolding blocks
+blocks-append [] hs = refl
+blocks-append (empty ∷ ls) hs = blocks-append ls hs
+blocks-append (from f x xs ∷ ls) hs = ap (λ (l : List Block). x ∷ (xs ++ l)) (blocks-append ls hs) ∙ sym (append-assoc (x ∷ xs) (blocks ls) (blocks hs))
+
+pub zone-blocks : (f : ℕ) (bs : List Block) (hs : List Zone) → blocks (zone f bs ∷ hs) ≡ bs ++ blocks hs
+unfolding blocks zone
+zone-blocks f [] hs = refl
+zone-blocks f (x ∷ xs) hs = refl
+
+-- fitting zones with the same blocks instead
+pub loose-joined : (R : ℕ) (ls hs hs' : List Zone) → Loose R (ls ++ hs) → Fit (8 * R) (length ls) (endAfter 0 0 ls) hs' → Perm (blocks hs') (blocks hs) → length hs' ≡ length hs → Loose R (ls ++ hs')
+loose-joined R ls hs hs' v f p l =
+    let q : Perm (blocks (ls ++ hs)) (blocks (ls ++ hs')) = subst (λ (x : List Block). Perm x (blocks (ls ++ hs'))) (sym (blocks-append ls hs))
+    (subst (Perm (blocks ls ++ blocks hs)) (sym (blocks-append ls hs')) (pleft (blocks ls) (psym p))) in
+    record {
+      classes = omega (arith, v .classes, length-append ls hs, length-append ls hs');
+      fit = fit-joined (8 * R) 0 0 (length ls) ls hs hs' (omega arith) (v .fit) f;
+      distinct = ppairs Other (λ x y o e. o (sym e)) q (v .distinct);
+      few = omega (arith, v .few, plength q);
+    }
+
+-- ---- zones shifted
+
+-- zones that fit from e on, with the blocks of zs
+pub record Shifted (n c e : ℕ) (zs zs' : List Zone) : Type 0 where
+  pub fit : Fit n c e zs'
+  pub same : Perm (blocks zs') (blocks zs)
+  pub long : length zs' ≡ length zs
+
+pub shift-fit : (n c e₀ e : ℕ) (zs : List Zone) → Fit n c e₀ zs → e₀ ≤ e → e ≤ e₀ + cells c → Holds (Shifted n c e zs) (shift cells n c e zs)
+unfolding shift blocks endOf lifted
+shift-fit n c e₀ e [] h lo hi = by-pick (Holds (Shifted n c e [])) (leb e n) (λ t. record { fit = leb-true e n t; same = pnil; long = refl }) (λ t. tt)
+shift-fit n c e₀ e (empty ∷ zs) h lo hi =
+    holds-map (Shifted n (suc c) e zs) (Shifted n c e (empty ∷ zs)) empty (λ r m. record { fit = m .fit; same = m .same; long = ap suc (m .long) }) (shift cells n (suc c) e zs)
+    (shift-fit n (suc c) e₀ e zs h lo (omega (arith, cells-mono c)))
+shift-fit n c e₀ e (from f x [] ∷ zs) h lo hi =
+    by-pick (Holds (Shifted n c e (from f x [] ∷ zs))) (leb e f)
+    (λ t. record { fit = (record { after = leb-true e f t; sit = h .0 .sit }, h .1); same = prefl _; long = refl })
+    (λ t. let gt : f < e = leb-false e f t in
+    holds-map (Shifted n (suc c) (e + 1 * cells c) zs) (Shifted n c e (from f x [] ∷ zs)) (from e x [])
+    (λ r m. record { fit = (record { after = omega arith; sit = h .0 .sit }, m .fit); same = pskip x (m .same); long = ap suc (m .long) })
+    (shift cells n (suc c) (e + 1 * cells c) zs)
+    (shift-fit n (suc c) (f + 1 * cells c) (e + 1 * cells c) zs (h .1) (omega arith) (omega (arith, cells-mono c, h .0 .after))))
+shift-fit n c e₀ e (from f x (y ∷ ys) ∷ zs) h lo hi =
+    by-pick (Holds (Shifted n c e (from f x (y ∷ ys) ∷ zs))) (leb e f)
+    (λ t. record { fit = (record { after = leb-true e f t; sit = h .0 .sit }, h .1); same = prefl _; long = refl })
+    (λ t. let gt : f < e = leb-false e f t in
+    let k : ℕ = f + cells c + suc (length (ys ++ (x ∷ []))) * cells c in
+    let ek : k ≡ f + suc (suc (length ys)) * cells c + cells c = simp length-snoc (omega arith) in
+    holds-map (Shifted n (suc c) k zs) (Shifted n c e (from f x (y ∷ ys) ∷ zs)) (from (f + cells c) y (ys ++ (x ∷ [])))
+    (λ r m. record {
+      fit = (record { after = omega (arith, h .0 .after); sit = pall (Sits c) (psym (protate x (y ∷ ys))) (h .0 .sit) }, m .fit);
+      same = ptrans (pleft (y ∷ (ys ++ (x ∷ []))) (m .same)) (pright (blocks zs) (protate x (y ∷ ys)));
+      long = ap suc (m .long);
+    })
+    (shift cells n (suc c) k zs)
+    (shift-fit n (suc c) (f + suc (suc (length ys)) * cells c) k zs (h .1) (omega arith) (omega (arith, cells-mono c))))
