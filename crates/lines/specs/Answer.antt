@@ -11,17 +11,17 @@ use Rattle.home.specs.Sound.{listOf}
 use Rattle.edits.specs.declared.Answer.{Answer}
 use Rattle.edits.specs.declared.Answer.the-variants.{Count, Refused}
 use Rattle.reads.specs.Reads.{countImage}
-use Rattle.lines.specs.declared.Word.{Word}
-use Rattle.lines.specs.declared.Word.the-variants.{Put, Del, Set, Drop, Show}
-use Rattle.lines.specs.declared.Command.{Command}
-use Rattle.lines.specs.declared.Parsed.{Parsed}
-use Rattle.lines.specs.declared.Parsed.the-variants.{Good, Bad}
+use Rattle.parse.specs.declared.Word.{Word}
+use Rattle.parse.specs.declared.Word.the-variants.{Put, Del, Set, Drop, Show}
+use Rattle.parse.specs.declared.Command.{Command}
+use Rattle.parse.specs.declared.Parsed.{Parsed}
+use Rattle.parse.specs.declared.Parsed.the-variants.{Good, Bad}
 use Rattle.lines.specs.declared.Reply.{Reply}
 use Rattle.lines.specs.declared.Reply.the-variants.{Fine, No}
 use Rattle.lines.specs.declared.Printed.{Printed}
 use Rattle.lines.specs.declared.Printed.the-variants.{Bytes, Short}
-use Rattle.lines.specs.Grammar.{parsed}
-use Rattle.lines.specs.Print.{listLines, okLine, noLine, badLine}
+use Rattle.parse.specs.Grammar.{parsed}
+use Rattle.print.specs.Print.{listLines, okLine, noLine, badLine}
 use Rattle.lines.specs.Run.{replyOf, imageOf, leftOf}
 
 -- an answer to an edit

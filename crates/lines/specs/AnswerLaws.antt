@@ -18,9 +18,9 @@ use Rattle.gates.specs.Gates.{imageGate}
 use Rattle.gates.specs.GatesLaws.{image-open}
 use Rattle.reads.specs.Reads.{counted, shown, countImage, showImage}
 use Rattle.reads.specs.MergesLaws.{sound-listed, list-reads}
-use Rattle.lines.specs.declared.Command.{Command}
+use Rattle.parse.specs.declared.Command.{Command}
 use Rattle.lines.specs.declared.Printed.the-variants.{Bytes, Short}
-use Rattle.lines.specs.Grammar.{parsed}
+use Rattle.parse.specs.Grammar.{parsed}
 use Rattle.lines.specs.Run.{replyOf, imageOf, leftOf}
 use Rattle.lines.specs.Answer.{replyLine, listing, isShow, commandText, commandImage, commandSpace, lineText, lineImage, lineSpace, printedOf, outOf, imageAfter, spaceAfter}
 

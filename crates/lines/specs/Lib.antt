@@ -1,9 +1,4 @@
-pub mod Grammar
-pub mod ParseLaws
-pub mod Print
-pub mod PrintLaws
 pub mod Run
 pub mod RunLaws
 pub mod Answer
 pub mod AnswerLaws
-pub mod Examples

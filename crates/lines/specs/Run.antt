@@ -13,11 +13,11 @@ use Rattle.index.specs.declared.Begun.{Begun}
 use Rattle.index.specs.declared.Begun.the-variants.{Done as Begin, Unbegun}
 use Rattle.index.specs.Begin.{beginAnswer, beginSpace}
 use Rattle.index.specs.Edits.{putAnswer, putSpace, deleteAnswer, deleteSpace, setAnswer, setSpace, dropAnswer, dropSpace}
-use Rattle.lines.specs.declared.Word.{Word}
-use Rattle.lines.specs.declared.Word.the-variants.{Put, Del, Set, Drop, Show}
+use Rattle.parse.specs.declared.Word.{Word}
+use Rattle.parse.specs.declared.Word.the-variants.{Put, Del, Set, Drop, Show}
 use Rattle.lines.specs.declared.Reply.{Reply}
 use Rattle.lines.specs.declared.Reply.the-variants.{Fine, No}
-use Rattle.lines.specs.declared.Command.{Command}
+use Rattle.parse.specs.declared.Command.{Command}
 
 -- ---- a workspace edited; `list` changes nothing
 

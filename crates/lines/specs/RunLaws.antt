@@ -31,7 +31,7 @@ use Rattle.index.specs.CommitLaws.{commit-shut}
 use Rattle.index.specs.Begin.{begun, spaceAfter, beginAnswer, beginSpace}
 use Rattle.lines.specs.declared.Reply.{Reply}
 use Rattle.lines.specs.declared.Reply.the-variants.{No}
-use Rattle.lines.specs.declared.Command.{Command}
+use Rattle.parse.specs.declared.Command.{Command}
 use Rattle.lines.specs.Run.{plenty, editAnswer, editSpace, editReply, editImage, begunReply, begunBytes, replyOf, imageOf, leftOf}
 
 -- a workspace that is not begun stays

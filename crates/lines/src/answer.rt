@@ -1,16 +1,16 @@
 // A line in, its whole answer out.
-use crate::Command;
-use crate::Parsed;
 use crate::Printed;
 use crate::Reply;
-use crate::Word;
-use crate::parse::parse;
-use crate::print::put_bad;
-use crate::print::put_list;
-use crate::print::put_no;
-use crate::print::put_ok;
 use crate::run::run;
 use edits::Answer;
+use parse::Command;
+use parse::Parsed;
+use parse::Word;
+use parse::parse;
+use print::put_bad;
+use print::put_list;
+use print::put_no;
+use print::put_ok;
 ghost use mathlib.Core.Path.{_≡_};
 ghost use Prim.Native.Nat.{_≤_};
 ghost use lib.ListN.{length};
@@ -18,7 +18,7 @@ ghost use Rattle.wire.specs.Bytes.{over};
 ghost use Rattle.redo.specs.Image.{home as homeOf};
 ghost use Rattle.home.specs.Sound.{listOf};
 ghost use Rattle.reads.specs.Reads.{countImage};
-ghost use Rattle.lines.specs.Grammar.{parsed};
+ghost use Rattle.parse.specs.Grammar.{parsed};
 ghost use Rattle.lines.specs.Answer.{replyLine, listing, isShow, commandText, commandImage, commandSpace, lineText, lineImage, lineSpace, printedOf, outOf, imageAfter, spaceAfter};
 
 fn is_list(word: Word) -> bool

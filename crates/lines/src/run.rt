@@ -1,10 +1,10 @@
 // Edits made and committed.
-use crate::Command;
 use crate::Reply;
-use crate::Word;
 use edits::Answer;
 use index::Begun;
 use log::Outcome;
+use parse::Command;
+use parse::Word;
 use records::Record;
 ghost use mathlib.Core.Path.{_≡_};
 ghost use Rattle.log.specs.Calls.{commitPlan};

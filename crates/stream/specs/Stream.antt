@@ -4,7 +4,7 @@ use Prim.Native.Nat.{ℕ}
 use lib.Dec.{eqb}
 use lib.ListN.{length, take}
 use Rattle.wire.specs.Bytes.{pick}
-use Rattle.lines.specs.Grammar.{onto, parsed}
+use Rattle.parse.specs.Grammar.{onto, parsed}
 use Rattle.lines.specs.Answer.{lineText, lineImage, lineSpace}
 
 -- ---- a whole input

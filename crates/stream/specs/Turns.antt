@@ -10,8 +10,8 @@ use lib.Seq.{take-all, length-take-le, take-append-add, take-append-seam, take-l
 use borrow.Author.Tests.{eq-eqb, ne-eqb}
 use Rattle.wire.specs.Bytes.{over}
 use Rattle.wire.specs.BytesLaws.{over-is, over-nil, over-append, over-part}
-use Rattle.lines.specs.Grammar.{parsed}
-use Rattle.lines.specs.ParseLaws.{before}
+use Rattle.parse.specs.Grammar.{parsed}
+use Rattle.parse.specs.ParseLaws.{before}
 use Rattle.lines.specs.declared.Printed.{Printed}
 use Rattle.lines.specs.Answer.{lineText, lineImage, lineSpace, printedOf, outOf, imageAfter, spaceAfter}
 use Rattle.stream.specs.declared.Fed.{Fed}

@@ -7,8 +7,8 @@ use lib.Dec.{eqb}
 use lib.ListN.{length}
 use borrow.Author.Tests.{ne-eqb}
 use Rattle.wire.specs.Cases.{by-test}
-use Rattle.lines.specs.declared.Parsed.{Parsed}
-use Rattle.lines.specs.Grammar.{onto, parsed}
+use Rattle.parse.specs.declared.Parsed.{Parsed}
+use Rattle.parse.specs.Grammar.{onto, parsed}
 use Rattle.lines.specs.Answer.{lineText, lineImage, lineSpace}
 use Rattle.stream.specs.Stream.{linesOf, answers, Open, state, clip, after, said, ending}
 use Rattle.stream.specs.StreamLaws.{parsed-clip, after-append, said-append, next-kept, next-none, closed, next-closed, next-reply}

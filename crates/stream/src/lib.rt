@@ -2,13 +2,13 @@
 use lines::Printed;
 use lines::answer::answer;
 use lines::answer::answer_line;
-use lines::parse::find;
+use parse::find;
 ghost use mathlib.Core.Path.{_≡_};
 ghost use mathlib.Core.List.{_++_};
 ghost use Prim.Native.Nat.{_+_, _≤_, _<_};
 ghost use lib.ListN.{length, take};
 ghost use Rattle.wire.specs.Bytes.{over};
-ghost use Rattle.lines.specs.Grammar.{parsed};
+ghost use Rattle.parse.specs.Grammar.{parsed};
 ghost use Rattle.lines.specs.Answer.{lineText, lineImage, lineSpace};
 ghost use Rattle.stream.specs.Stream.{state, clip};
 ghost use Rattle.stream.specs.Finish.{Feeds, finishPrinted, finishOut, finishImage, finishSpace};

@@ -1,0 +1,252 @@
+-- Laws of the grammar, as the code reads a line.
+use mathlib.Core.Path.{_≡_, refl, sym, ap, ap₂, _∙_}
+use mathlib.Core.Bool.{Bool, true, false, _&&_, not}
+use mathlib.Core.List.{List, [], _∷_}
+use Prim.Native.Nat.{ℕ, suc, _+_, _*_, _-_, _≤_, _<_}
+use native.Mathlib.Omega.{arith}
+use native.Mathlib.Nat.{sub-zero}
+use native.Mathlib.Numerals.{add-one}
+use lib.Dec.{eqb, leb}
+use lib.ListN.{length, take, drop, getD, length-drop, drop-of-length-le}
+use lib.Seq.{drop-cons, drop-drop, take-all}
+use borrow.Author.Tests.{le-leb, lt-leb, eq-eqb, ne-eqb, leb-true}
+use Rattle.wire.specs.Bytes.{pick, part}
+use Rattle.wire.specs.Cases.{by-test, both, and-false}
+use Rattle.parse.specs.declared.Named.{Named}
+use Rattle.parse.specs.declared.Number.{Number}
+use Rattle.parse.specs.declared.Number.the-variants.{Value, NoNumber}
+use Rattle.parse.specs.declared.Parsed.{Parsed}
+use Rattle.parse.specs.declared.Parsed.the-variants.{Bad}
+use Rattle.parse.specs.Grammar.{onto, fields, wordOf, isDigit, digitsOnly, valueFrom, leads, numberOf, built, commandOf, parsed}
+
+-- ---- commas
+
+-- how many bytes stand before the first x
+unfoldable pub before : ℕ → List ℕ → ℕ
+before x [] = 0
+before x (y ∷ l) = pick (eqb y x) 0 (suc (before x l))
+
+-- one turn of the search
+pub before-here : (x : ℕ) (line : List ℕ) (i : ℕ) → i < length line → getD line i 0 ≡ x → before x (drop i line) ≡ 0
+unfolding before
+before-here x line i g e = rw (drop-cons line i 0 g, eq-eqb _ _ e)
+
+pub before-turn : (x : ℕ) (line : List ℕ) (i : ℕ) → i < length line → (getD line i 0 ≡ x → ⊥) → before x (drop i line) ≡ suc (before x (drop (i + 1) line))
+unfolding before
+before-turn x line i g e = rw (add-one, drop-cons line i 0 g, ne-eqb _ _ e)
+
+pub before-end : (x : ℕ) (line : List ℕ) (i : ℕ) → length line ≤ i → before x (drop i line) ≡ 0
+unfolding before
+before-end x line i g = rw (drop-of-length-le line {i = i} g)
+
+-- the first field, up to a comma or the line's end
+first : (l : List ℕ) → before 44 l < length l → fields l ≡ take (before 44 l) l ∷ fields (drop (suc (before 44 l)) l)
+unfolding before fields onto
+first [] g = absurd (omega arith)
+first (x ∷ l) g =
+    by-test (eqb x 44) (λ e. rw e)
+    (λ e. rw e (ap (onto x) (first l (let h : before 44 (x ∷ l) ≡ suc (before 44 l) = rw e in omega arith))))
+
+only : (l : List ℕ) → length l ≤ before 44 l → fields l ≡ l ∷ []
+unfolding before fields onto
+only [] g = refl
+only (x ∷ l) g =
+    by-test (eqb x 44) (λ e. let h : before 44 (x ∷ l) ≡ 0 = rw e in absurd (omega arith))
+    (λ e. rw e (ap (onto x) (only l (let h : before 44 (x ∷ l) ≡ suc (before 44 l) = rw e in omega arith))))
+
+pub cut : (line : List ℕ) (from r : ℕ) → r ≡ from + before 44 (drop from line) → r < length line
+    → fields (drop from line) ≡ part line from (r - from) ∷ fields (drop (r + 1) line)
+unfolding part
+cut line from r e g =
+    let b : before 44 (drop from line) ≡ r - from = omega arith in
+    let k : from + suc (before 44 (drop from line)) ≡ r + 1 = omega arith in
+    first (drop from line) (rw length-drop (omega arith))
+    ∙ ap₂ (λ (n : ℕ) (l : List ℕ). take n (drop from line) ∷ fields l) b (drop-drop (suc (before 44 (drop from line))) from line ∙ ap (λ (n : ℕ). drop n line) k)
+
+pub last : (line : List ℕ) (from r : ℕ) → from ≤ length line → r ≡ from + before 44 (drop from line) → length line ≤ r
+    → fields (drop from line) ≡ part line from (length line - from) ∷ []
+unfolding part
+last line from r h e g =
+    only (drop from line) (rw length-drop (omega arith))
+    ∙ ap (λ (l : List ℕ). l ∷ []) (sym (take-all (length line - from) (drop from line) (rw length-drop (omega arith))))
+
+-- ---- numbers
+
+-- do digits after v give a number up to this one
+unfoldable pub fits : ℕ → ℕ → List ℕ → Bool
+fits most v f = digitsOnly f && leb (valueFrom v f) most
+
+pub led-short : (s : List ℕ) → length s < 2 → eqb (length s) 1 ≡ leads s
+unfolding leads
+led-short [] g = refl
+led-short (d ∷ []) g = refl
+led-short (d ∷ e ∷ s) g = absurd (omega arith)
+
+pub led-long : (s : List ℕ) → 2 ≤ length s → not (eqb (getD s 0 0) 48) ≡ leads s
+unfolding leads
+led-long [] g = absurd (omega arith)
+led-long (d ∷ []) g = absurd (omega arith)
+led-long (d ∷ e ∷ s) g = refl
+
+-- digits never make a number smaller
+grows : (v : ℕ) (f : List ℕ) → v ≤ valueFrom v f
+unfolding valueFrom
+grows v [] = omega arith
+grows v (d ∷ f) = omega (arith, grows (v * 10 + (d - 48)) f)
+
+-- what the loop knows: v is the number of the first i digits
+pub record Turn (most : ℕ) (s : List ℕ) (v i : ℕ) : Type 0 where
+  pub inside : i ≤ length s
+  pub small : v ≤ most
+  pub fit : fits most v (drop i s) ≡ fits most 0 s
+  pub value : valueFrom v (drop i s) ≡ valueFrom 0 s
+
+pub turn-first : (most : ℕ) (s : List ℕ) → Turn most s 0 0
+turn-first most s = record { inside = omega arith; small = omega arith; fit = refl; value = refl }
+
+fits-turn : (most v : ℕ) (s : List ℕ) (i : ℕ) → i < length s → 48 ≤ getD s i 0 → getD s i 0 ≤ 57
+    → fits most (v * 10 + (getD s i 0 - 48)) (drop (i + 1) s) ≡ fits most v (drop i s)
+unfolding fits digitsOnly isDigit valueFrom
+fits-turn most v s i g a b = rw (add-one, drop-cons s i 0 g, le-leb 48 (getD s i 0) a, le-leb (getD s i 0) 57 b)
+
+value-turn : (v : ℕ) (s : List ℕ) (i : ℕ) → i < length s → valueFrom (v * 10 + (getD s i 0 - 48)) (drop (i + 1) s) ≡ valueFrom v (drop i s)
+unfolding valueFrom
+value-turn v s i g = rw (add-one, drop-cons s i 0 g)
+
+pub turn-next : (most : ℕ) (s : List ℕ) (v i : ℕ) → i < length s → 48 ≤ getD s i 0 → getD s i 0 ≤ 57 → v * 10 + (getD s i 0 - 48) ≤ most
+    → Turn most s v i → Turn most s (v * 10 + (getD s i 0 - 48)) (i + 1)
+turn-next most s v i g a b h t =
+    record {
+      inside = omega arith;
+      small = h;
+      fit = fits-turn most v s i g a b ∙ t .fit;
+      value = value-turn v s i g ∙ t .value;
+    }
+
+refused : (most : ℕ) (s : List ℕ) → fits most 0 s ≡ false → NoNumber ≡ numberOf most s
+unfolding numberOf fits
+refused most s e = rw (e, and-false (leads s))
+
+-- no digit
+pub turn-low : (most : ℕ) (s : List ℕ) (v i : ℕ) → i < length s → getD s i 0 < 48 → Turn most s v i → NoNumber ≡ numberOf most s
+unfolding fits digitsOnly isDigit
+turn-low most s v i g h t = refused most s (sym (t .fit) ∙ rw (drop-cons s i 0 g, lt-leb 48 (getD s i 0) h))
+
+pub turn-high : (most : ℕ) (s : List ℕ) (v i : ℕ) → i < length s → 57 < getD s i 0 → Turn most s v i → NoNumber ≡ numberOf most s
+unfolding fits digitsOnly isDigit
+turn-high most s v i g h t = refused most s (sym (t .fit) ∙ rw (drop-cons s i 0 g, lt-leb (getD s i 0) 57 h, and-false (leb 48 (getD s i 0))))
+
+-- too large
+fits-over : (most v : ℕ) (f : List ℕ) → most < v → fits most v f ≡ false
+unfolding fits
+fits-over most v f g = rw (lt-leb (valueFrom v f) most (omega (arith, grows v f)), and-false (digitsOnly f))
+
+pub turn-over : (most : ℕ) (s : List ℕ) (v i : ℕ) → i < length s → 48 ≤ getD s i 0 → getD s i 0 ≤ 57 → most < v * 10 + (getD s i 0 - 48)
+    → Turn most s v i → NoNumber ≡ numberOf most s
+turn-over most s v i g a b h t = refused most s (sym (fits-turn most v s i g a b ∙ t .fit) ∙ fits-over most (v * 10 + (getD s i 0 - 48)) (drop (i + 1) s) h)
+
+pub turn-last : (most : ℕ) (s : List ℕ) (v i : ℕ) → length s ≤ i → leads s ≡ true → Turn most s v i → Value v ≡ numberOf most s
+unfolding numberOf fits valueFrom digitsOnly
+turn-last most s v i g e t =
+    let n : drop i s ≡ [] = drop-of-length-le s {i = i} g in
+    let a : fits most 0 s ≡ true = sym (t .fit) ∙ rw (n, le-leb v most (t .small)) in
+    let b : v ≡ valueFrom 0 s = rw n at (t .value) in
+    rw (e, a) (ap Value b)
+
+pub unled : (most : ℕ) (s : List ℕ) → leads s ≡ false → NoNumber ≡ numberOf most s
+unfolding numberOf
+unled most s e = rw e
+
+-- a number up to k
+abbrev pub Below : ℕ → Number → Type 0
+Below k n = (v : ℕ) → n ≡ Value v → v ≤ k
+
+value-of : ℕ → Number → ℕ
+value-of k (Value v) = v
+value-of k NoNumber = k
+
+pub number-below : (most : ℕ) (f : List ℕ) → Below most (numberOf most f)
+unfolding numberOf value-of
+number-below most f v e =
+    by-test (leads f && (digitsOnly f && leb (valueFrom 0 f) most))
+    (λ h. let a : valueFrom 0 f ≡ v = ap (value-of 0) (rw h at e) in
+    let g = both (digitsOnly f) (leb (valueFrom 0 f) most) (both (leads f) (digitsOnly f && leb (valueFrom 0 f) most) h .1) in
+    omega (arith, leb-true (valueFrom 0 f) most (g .1)))
+    (λ h. let a : most ≡ v = ap (value-of most) (rw h at e) in omega arith)
+
+-- ---- the line
+
+-- the command of a line with commas at these places
+unfoldable pub atCommas : List ℕ → ℕ → ℕ → ℕ → ℕ → ℕ → Parsed
+atCommas l a b c d e =
+    built (wordOf (part l 0 a))
+    (numberOf 4294967295 (part l (a + 1) (b - (a + 1))))
+    (numberOf 255 (part l (b + 1) (c - (b + 1))))
+    (numberOf 4294967295 (part l (c + 1) (d - (c + 1))))
+    (numberOf 65535 (part l (d + 1) (e - (d + 1))))
+    (numberOf 255 (part l (e + 1) (length l - (e + 1))))
+
+pub built-at : (line : List ℕ) (a b c d e : ℕ) (w : Named) (t l s p m : Number) → w ≡ wordOf (part line 0 (a - 0))
+    → t ≡ numberOf 4294967295 (part line (a + 1) (b - (a + 1))) → l ≡ numberOf 255 (part line (b + 1) (c - (b + 1)))
+    → s ≡ numberOf 4294967295 (part line (c + 1) (d - (c + 1))) → p ≡ numberOf 65535 (part line (d + 1) (e - (d + 1)))
+    → m ≡ numberOf 255 (part line (e + 1) (length line - (e + 1))) → built w t l s p m ≡ atCommas line a b c d e
+unfolding atCommas
+built-at line a b c d e w t l s p m ew et el es ep em = rw (ew, et, el, es, ep, em, sub-zero)
+
+-- there is always a field
+some-field : (l : List ℕ) → 0 < length (fields l)
+unfolding fields onto
+some-field [] = omega arith
+some-field (x ∷ l) = by-test (eqb x 44) (λ e. rw e (omega arith)) (λ e. rw e (onto-some x (fields l)))
+  where
+    onto-some : (x : ℕ) (fs : List (List ℕ)) → 0 < length (onto x fs)
+    onto-some x [] = omega arith
+    onto-some x (f ∷ fs) = omega arith
+
+-- six fields and no other number of them
+not-six : (fs : List (List ℕ)) → (length fs ≡ 6 → ⊥) → commandOf fs ≡ Bad
+unfolding commandOf
+not-six [] g = refl
+not-six (w ∷ []) g = refl
+not-six (w ∷ t ∷ []) g = refl
+not-six (w ∷ t ∷ l ∷ []) g = refl
+not-six (w ∷ t ∷ l ∷ s ∷ []) g = refl
+not-six (w ∷ t ∷ l ∷ s ∷ p ∷ []) g = refl
+not-six (w ∷ t ∷ l ∷ s ∷ p ∷ m ∷ []) g = absurd (g refl)
+not-six (w ∷ t ∷ l ∷ s ∷ p ∷ m ∷ x ∷ xs) g = refl
+
+pub bad-long : (line : List ℕ) → 80 < length line → Bad ≡ parsed line
+unfolding parsed
+bad-long line g = rw (lt-leb (length line) 80 g)
+
+bad-count : (line : List ℕ) → length line ≤ 80 → (length (fields line) ≡ 6 → ⊥) → Bad ≡ parsed line
+unfolding parsed
+bad-count line g h = rw (le-leb (length line) 80 g) (sym (not-six (fields line) h))
+
+-- as many fields up to a place, and those from there on
+abbrev pub Counted : List ℕ → ℕ → ℕ → Type 0
+Counted line n at = length (fields line) ≡ n + length (fields (drop at line))
+
+pub count-next : (line : List ℕ) (n from r : ℕ) → Counted line n from → r ≡ from + before 44 (drop from line) → r < length line → Counted line (n + 1) (r + 1)
+count-next line n from r s e g = omega (arith, ap length (cut line from r e g))
+
+pub bad-few : (line : List ℕ) (n from r : ℕ) → length line ≤ 80 → Counted line n from → n < 5 → from ≤ length line → r ≡ from + before 44 (drop from line) → length line ≤ r
+    → Bad ≡ parsed line
+bad-few line n from r g s k h e f = bad-count line g (λ z. omega (arith, ap length (last line from r h e f)))
+
+pub bad-many : (line : List ℕ) (at : ℕ) → length line ≤ 80 → Counted line 6 at → Bad ≡ parsed line
+bad-many line at g s = bad-count line g (λ z. omega (arith, some-field (drop at line)))
+
+pub good : (line : List ℕ) (a b c d e f : ℕ) → length line ≤ 80 → e < length line → length line ≤ f
+    → a ≡ 0 + before 44 (drop 0 line) → b ≡ a + 1 + before 44 (drop (a + 1) line) → c ≡ b + 1 + before 44 (drop (b + 1) line)
+    → d ≡ c + 1 + before 44 (drop (c + 1) line) → e ≡ d + 1 + before 44 (drop (d + 1) line) → f ≡ e + 1 + before 44 (drop (e + 1) line)
+    → atCommas line a b c d e ≡ parsed line
+unfolding parsed commandOf atCommas
+good line a b c d e f g h k ea eb ec ed ee ef =
+    let fs = cut line 0 a ea (omega arith)
+    ∙ ap (_∷_ (part line 0 (a - 0))) (cut line (a + 1) b eb (omega arith)
+    ∙ ap (_∷_ (part line (a + 1) (b - (a + 1)))) (cut line (b + 1) c ec (omega arith)
+    ∙ ap (_∷_ (part line (b + 1) (c - (b + 1)))) (cut line (c + 1) d ed (omega arith)
+    ∙ ap (_∷_ (part line (c + 1) (d - (c + 1)))) (cut line (d + 1) e ee h
+    ∙ ap (_∷_ (part line (d + 1) (e - (d + 1)))) (last line (e + 1) f (omega arith) ef k))))) in
+    rw (le-leb (length line) 80 g) (sym (ap commandOf (rw sub-zero at fs)))
