@@ -2,7 +2,7 @@
 use mathlib.Core.List.{List, [], _∷_, _++_}
 use Prim.Native.Nat.{ℕ, zero, suc, _-_}
 use lib.Dec.{leb}
-use lib.ListN.{getD, replicate}
+use lib.ListN.{getD, replicate, take}
 use Rattle.wire.specs.Bytes.{pick}
 
 -- "Capacities by class: 4, 5, 6, .."
@@ -42,3 +42,7 @@ runs c low (k ∷ ks) = replicate (suc k - low) c ++ runs (suc c) (suc k) ks
 unfoldable pub table : List ℕ
 unfolding runs capacities
 table = runs 0 0 capacities
+
+-- its first 144 numbers, which a program keeps at hand
+unfoldable pub short : List ℕ
+short = take 144 table

@@ -1,5 +1,5 @@
 -- The class of a number of records, and that block sizes rise with the class.
-use mathlib.Core.Path.{_≡_, refl}
+use mathlib.Core.Path.{_≡_, refl, _∙_}
 use mathlib.Core.Bool.{Bool, true, _&&_}
 use mathlib.Core.List.{List, [], _∷_, _++_}
 use Prim.Native.Nat.{ℕ, zero, suc, _+_, _-_, _≤_, _<_, suc-le-suc}
@@ -7,9 +7,10 @@ use native.Mathlib.Omega.{arith}
 use native.Mathlib.Nat.{sub-zero, add-zero, add-suc}
 use lib.Dec.{leb}
 use lib.ListN.{length, drop, getD}
+use lib.Seq.{getD-take}
 use borrow.Author.Tests.{leb-true, leb-false}
 use Rattle.wire.specs.Cases.{by-lt, both}
-use Rattle.home.specs.Capacities.{capacities, capacity, under, cells, classFrom, classOf, table}
+use Rattle.home.specs.Capacities.{capacities, capacity, under, cells, classFrom, classOf, table, short}
 use Rattle.home.specs.Cases.{by-pick}
 use Rattle.home.specs.Table.{table-at}
 
@@ -23,9 +24,13 @@ pub table-class : (n : ℕ) → n < 990 → getD table n 0 ≡ classOf n
 unfolding table classOf
 table-class n h = table-at classOf table refl n h
 
-pub table-length : length table ≡ 990
-unfolding table
-table-length = refl
+pub short-class : (n : ℕ) → n < 144 → getD short n 0 ≡ classOf n
+unfolding short
+short-class n h = getD-take 144 table n 0 h ∙ table-class n (omega arith)
+
+pub short-length : length short ≡ 144
+unfolding short table
+short-length = refl
 
 -- ---- sizes
 

@@ -12,7 +12,7 @@ ghost use lib.ListN.{length};
 ghost use lib.Dec.{eqb};
 ghost use Rattle.wire.specs.Bytes.{part, blank, get16};
 ghost use Rattle.records.specs.Records.{rising as ordered, records};
-ghost use Rattle.home.specs.Capacities.{capacity as capacityOf, under as underOf, cells as cellsOf, table};
+ghost use Rattle.home.specs.Capacities.{capacity as capacityOf, under as underOf, cells as cellsOf, short};
 ghost use Rattle.home.specs.Bytes.{cellAt, tagAt};
 ghost use Rattle.home.specs.Sound.{sized as sizedOf, sound as isSound};
 ghost use Rattle.sound.specs.Checks.{blockFine, blocksFine, zoneFine, endAt, zonesFine, manyIn, tagsFine};
@@ -148,7 +148,7 @@ fn zones_fine(home: &[u8], area: usize, n: usize) -> bool
 
 // Whether p is a block's first cell. The block there gives its class, so that one zone is looked at.
 fn leads_at(home: &[u8], classes: &[u8], area: usize, p: usize) -> bool
-    requires { ⌜ (cellAt area ≤ length (now home)) × (now classes ≡ table) ⌝ }
+    requires { ⌜ (cellAt area ≤ length (now home)) × (now classes ≡ short) ⌝ }
     ensures { λ r. ⌜ r ≡ leadsAt (now (home .entry)) area p ⌝ }
 {
     if area <= p {
@@ -173,7 +173,7 @@ fn leads_at(home: &[u8], classes: &[u8], area: usize, p: usize) -> bool
 
 // The i-th entry, which has this tag: it is not below `low`, and leads to a block with it.
 fn entry_fine(home: &[u8], classes: &[u8], area: usize, low: u64, tag: u32, i: usize) -> bool
-    requires { ⌜ (i < 256) × (tag ≡ tagAt (now home) i) × (cellAt area ≤ length (now home)) × (now classes ≡ table) ⌝ }
+    requires { ⌜ (i < 256) × (tag ≡ tagAt (now home) i) × (cellAt area ≤ length (now home)) × (now classes ≡ short) ⌝ }
     ensures { λ r. ⌜ r ≡ entryFine (now (home .entry)) area low i ⌝ }
 {
     if (tag as u64) < low {
@@ -188,7 +188,7 @@ fn entry_fine(home: &[u8], classes: &[u8], area: usize, low: u64, tag: u32, i: u
 
 // The dictionary's n entries.
 fn tags_fine(home: &[u8], classes: &[u8], area: usize, n: usize) -> bool
-    requires { ⌜ (n ≤ 256) × (cellAt area ≤ length (now home)) × (zonesFine (now home) area 0 0 30 ≡ true) × (now classes ≡ table) ⌝ }
+    requires { ⌜ (n ≤ 256) × (cellAt area ≤ length (now home)) × (zonesFine (now home) area 0 0 30 ≡ true) × (now classes ≡ short) ⌝ }
     ensures { λ r. ⌜ r ≡ tagsFine (now (home .entry)) 0 0 n ⌝ }
 {
     let mut low: u64 = 0;

@@ -1,10 +1,10 @@
 use mathlib.Core.Path.{refl}
-use Rattle.home.specs.Capacities.{table}
+use Rattle.home.specs.Capacities.{table, short}
 use Rattle.home.proofs.classes.class_table.Statement.{statement}
 use Rattle.home.proofs.classes.class_table.Tie as tie
 
 returns : tie.Need-returns
-unfolding table
+unfolding short table
 returns c = refl
 
 pub class-table-spec : {M : Type 1} → statement M
