@@ -4,7 +4,6 @@ pub mod Calls
 pub mod CallLaws
 pub mod Answers
 pub mod FormatLaws
-pub mod Examples
 pub mod Book
 pub mod Holds
 pub mod Steps
