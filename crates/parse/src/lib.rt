@@ -1,11 +1,11 @@
 // A line of text read as a command.
+use records::Record;
 ghost use mathlib.Core.Path.{_≡_};
 ghost use Prim.Native.Nat.{_+_, _-_, _≤_, _<_};
 ghost use lib.ListN.{length, drop};
 ghost use Rattle.wire.specs.Bytes.{part};
 ghost use Rattle.parse.specs.Grammar.{leads, numberOf, wordOf, built, parsed};
 ghost use Rattle.parse.specs.ParseLaws.{before, Below, atCommas};
-use records::Record;
 
 // A command's word; `list` is Show.
 pub enum Word {

@@ -52,11 +52,11 @@ fn merge_lists(m: Merge, xs: &[u8], ys: &[u8], out: &mut [u8]) -> Answer
     ensures { λ r. ⌜ r ≡ fitted (merged m (decode (now (xs .entry))) (decode (now (ys .entry)))) (now (out .entry)) ⌝ }
     ensures { λ _. ⌜ now (out .exit) ≡ filled (merged m (decode (now (xs .entry))) (decode (now (ys .entry)))) (now (out .entry)) ⌝ }
 {
-    let k = records::merge_count(m, xs, ys);
+    let k = merges::merge_count(m, xs, ys);
     if out.len() / 8 < k {
         return Answer::Refused(15);
     }
-    Answer::Count(records::merge_into(m, xs, ys, out))
+    Answer::Count(merges::merge_into(m, xs, ys, out))
 }
 
 // Writes both, either or first-without-second of two tags' lists in an image to an output.

@@ -1,8 +1,8 @@
 use Rattle.records.specs.Turns.{side-over, side-alone, side-before, side-after, side-same}
 use native.Mathlib.Omega.{arith}
 use borrow.Author.Needs.{needs}
-use Rattle.records.proofs.side_at.Statement.{statement}
-use Rattle.records.proofs.side_at.Tie as tie
+use Rattle.merges.proofs.side_at.Statement.{statement}
+use Rattle.merges.proofs.side_at.Tie as tie
 
 returns : tie.Need-returns
 returns c = side-over (c .before .before .before .args .a .now) (c .before .before .before .args .b .now) (c .before .before .before .args .i) (c .before .before .before .args .j) (omega arith)

@@ -1,7 +1,7 @@
 use Rattle.records.specs.Records.{keeps}
 use borrow.Author.Needs.{needs}
-use Rattle.records.proofs.kept.Statement.{statement}
-use Rattle.records.proofs.kept.Tie as tie
+use Rattle.merges.proofs.kept.Statement.{statement}
+use Rattle.merges.proofs.kept.Tie as tie
 
 enum-told : tie.Need-enum-told
 enum-told c = search needs

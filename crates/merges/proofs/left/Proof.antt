@@ -1,7 +1,7 @@
 use mathlib.Core.Path.{refl}
 use borrow.Author.Needs.{needs}
-use Rattle.records.proofs.left.Statement.{statement}
-use Rattle.records.proofs.left.Tie as tie
+use Rattle.merges.proofs.left.Statement.{statement}
+use Rattle.merges.proofs.left.Tie as tie
 
 add-result : tie.Need-add-result
 add-result c = search needs

@@ -1,11 +1,11 @@
 use native.Mathlib.Omega.{arith}
 use mathlib.Core.Path.{_≡_, sym, _∙_}
 use borrow.Author.Tests.{not-true, not-false}
 use Rattle.records.specs.Records.{keeps, tally}
 use Rattle.records.specs.Turns.{emit-none, emit-one, tally-one}
 use borrow.Author.Needs.{needs}
-use Rattle.records.proofs.emit.Statement.{statement}
-use Rattle.records.proofs.emit.Tie as tie
+use Rattle.merges.proofs.emit.Statement.{statement}
+use Rattle.merges.proofs.emit.Tie as tie
 
 kept-requires : tie.Need-kept-requires
 kept-requires c κs = search needs

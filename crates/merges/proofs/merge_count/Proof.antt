@@ -3,10 +3,10 @@ use mathlib.Core.Path.{sym, _∙_}
 use Prim.Native.Nat.{_+_, _-_, _/_}
 use lib.ListN.{length}
 use borrow.Author.Tests.{ltb-true, ltb-false}
 use Rattle.records.specs.Turns.{Turn, Count, count-start, count-turn, count-end, merge-turn, tally-small}
 use borrow.Author.Needs.{needs}
-use Rattle.records.proofs.merge_count.Statement.{statement}
-use Rattle.records.proofs.merge_count.Tie as tie
+use Rattle.merges.proofs.merge_count.Statement.{statement}
+use Rattle.merges.proofs.merge_count.Tie as tie
 
 abbrev Inv-loop : tie.InvT-loop
 Inv-loop m a b i₀ j₀ k₀ i j k = Count m a b i j k

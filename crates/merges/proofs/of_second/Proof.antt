@@ -1,7 +1,7 @@
 use Rattle.records.specs.Records.{ofSecond}
 use borrow.Author.Needs.{needs}
-use Rattle.records.proofs.of_second.Statement.{statement}
-use Rattle.records.proofs.of_second.Tie as tie
+use Rattle.merges.proofs.of_second.Statement.{statement}
+use Rattle.merges.proofs.of_second.Tie as tie
 
 enum-told : tie.Need-enum-told
 enum-told c = search needs

@@ -4,10 +4,10 @@ use Prim.Native.Nat.{_+_, _-_, _/_}
 use lib.ListN.{length}
 use borrow.Author.Tests.{ltb-true, ltb-false}
 use Rattle.wire.specs.BytesLaws.{length-over}
 use Rattle.records.specs.Turns.{Turn, Count, count-start, count-turn, count-end, count-room, Written, written-start, written-turn, written-end, merge-turn}
 use borrow.Author.Needs.{needs}
-use Rattle.records.proofs.merge_into.Statement.{statement}
-use Rattle.records.proofs.merge_into.Tie as tie
+use Rattle.merges.proofs.merge_into.Statement.{statement}
+use Rattle.merges.proofs.merge_into.Tie as tie
 
 abbrev Inv-loop : tie.InvT-loop
 Inv-loop m a b out₀ i₀ j₀ k₀ out i j k = Count m a b i j k × Written m a b out₀ i j k out × (length out ≡ length out₀)

@@ -1,9 +1,9 @@
 use Rattle.records.specs.Records.{ofFirst, ofSecond, next}
 use mathlib.Core.Path.{_≡_, ap}
 use native.Mathlib.Omega.{arith}
 use borrow.Author.Needs.{needs}
-use Rattle.records.proofs.next_at.Statement.{statement}
-use Rattle.records.proofs.next_at.Tie as tie
+use Rattle.merges.proofs.next_at.Statement.{statement}
+use Rattle.merges.proofs.next_at.Tie as tie
 
 enum-told : tie.Need-enum-told
 enum-told c = search needs
