@@ -1,5 +1,8 @@
 //! Holds the library against the model: `hold [CALLS [SEED]]`. Every call is made of both, and its
-//! answer and every lent byte are compared.
+//! answer and every lent byte are compared. From 100,000 calls on the program `calls` is held against it too.
+mod calls;
+mod input;
+mod lines;
 mod model;
 mod pair;
 mod random;
@@ -18,6 +21,9 @@ fn main() {
         .unwrap_or_else(|| SystemTime::now().duration_since(UNIX_EPOCH).unwrap().as_micros() as u64);
     println!("{} changed images answered as told", spoiled::compare());
     println!("seed {seed}");
+    if calls >= 100_000 {
+        calls::compare(seed);
+    }
     let start = Instant::now();
     let mut tally = Tally::default();
     if calls >= 100_000 {
