@@ -40,22 +40,13 @@ fn told(name: &str, input: &[u8], answers: &[u8]) {
 }
 
 fn same(name: &str, given: &[u8], answers: &[u8]) {
-    if given == answers {
-        return;
-    }
-    let (mut a, mut b) = (given.split(|&b| b == b'\n'), answers.split(|&b| b == b'\n'));
-    for number in 1.. {
-        let (a, b) = (a.next(), b.next());
-        if a != b {
-            let shown = |l: Option<&[u8]>| l.map(|l| String::from_utf8_lossy(l).into_owned());
-            panic!(
-                "calls, {name}: {} bytes of answers, not {}; line {number} is {:?}, not {:?}",
-                given.len(),
-                answers.len(),
-                shown(a),
-                shown(b)
-            );
-        }
+    let lines = |text: &[u8]| -> Vec<String> {
+        text.split_inclusive(|&b| b == b'\n').map(|l| String::from_utf8_lossy(l).into_owned()).collect()
+    };
+    if given != answers {
+        let (given, answers) = (lines(given), lines(answers));
+        let i = (0..).find(|&i| given.get(i) != answers.get(i)).unwrap();
+        panic!("calls, {name}: line {} of the answers is {:?}, not {:?}", i + 1, given.get(i), answers.get(i));
     }
 }
 
