@@ -3,6 +3,7 @@ use crate::random::Random;
 use crate::{input, lines};
 use std::fs::{self, File};
 use std::io::Write;
+use std::path::Path;
 use std::process::{Command, Output, Stdio};
 use std::thread;
 use std::time::Duration;
@@ -10,8 +11,8 @@ use std::time::Duration;
 const PROGRAM: &str = concat!(env!("CARGO_MANIFEST_DIR"), "/../target/bin/calls");
 const INPUT: &str = concat!(env!("CARGO_MANIFEST_DIR"), "/../target/calls.in");
 
-/// Two inputs with the answers of another model, inputs with next to nothing, and a random one, fed as a file and
-/// as pieces through a pipe.
+/// Two inputs with the answers of another model, two with next to nothing, and a random one, fed as a
+/// file and in pieces through a pipe.
 pub fn compare(seed: u64) {
     told("calls-short", include_bytes!("../calls-short.in"), include_bytes!("../calls-short.out"));
     told("calls-long", include_bytes!("../calls-long.in"), include_bytes!("../calls-long.out"));
@@ -62,6 +63,7 @@ fn pieces<'a>(rng: &mut Random, mut input: &'a [u8]) -> Vec<&'a [u8]> {
     pieces
 }
 
+/// From a file each read fills the program's buffer.
 fn from_file(path: &str) -> Vec<u8> {
     written(program().stdin(File::open(path).expect(path)).output().expect(PROGRAM))
 }
@@ -84,7 +86,7 @@ fn piped(pieces: &[&[u8]]) -> Vec<u8> {
 }
 
 fn program() -> Command {
-    assert!(fs::exists(PROGRAM).unwrap(), "{PROGRAM} is missing: rt check calls builds it");
+    assert!(Path::new(PROGRAM).exists(), "{PROGRAM} is missing: rt check calls builds it");
     Command::new(PROGRAM)
 }
 

@@ -1,5 +1,6 @@
 //! Holds the library against the model: `hold [CALLS [SEED]]`. Every call is made of both, and its
-//! answer and every lent byte are compared. From 100,000 calls on the program `calls` is held against it too.
+//! answer and every lent byte are compared. From 100,000 calls on, the program `calls` is held against
+//! it too.
 mod calls;
 mod input;
 mod lines;
