@@ -19,7 +19,7 @@ use Rattle.edits.specs.declared.Answer.the-variants.{Count, Refused}
 use Rattle.zones.specs.SoundLaws.{sound-some, sound-small, sound-valid}
 use Rattle.edits.specs.Edits.{told, putIn, deleteIn, setIn, dropIn, leaves}
 
--- an edit that is not refused: tag t's list is rs, and the answer its record count; "every other tag reads as before"
+-- an edit that is not refused: tag t's list is rs, and the answer its record count; every other tag reads as before
 pub record Done (w w' : List ℕ) (t : ℕ) (rs : List Record) (n : ℕ) : Type 0 where
   pub fine : sound w' ≡ true
   pub long : length w' ≡ length w
@@ -27,7 +27,7 @@ pub record Done (w w' : List ℕ) (t : ℕ) (rs : List Record) (n : ℕ) : Type 
   pub counts : n ≡ length rs
   pub others : (u : ℕ) → u ≢ t → listOf w' u ≡ listOf w u
 
--- "A refused call changes no lent byte"
+-- a refused one changes no lent byte
 abbrev pub Effect : List ℕ → List ℕ → ℕ → List Record → Answer → Type 0
 Effect w w' t rs (Count n) = Done w w' t rs n
 Effect w w' t rs (Refused n) = w' ≡ w

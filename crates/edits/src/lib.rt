@@ -176,13 +176,11 @@ pub fn drop_tag(home: &mut [u8], tag: u32) -> Answer
     ensures { λ a. ⌜ a ≡ told (dropIn (now (home .entry)) tag .answer) ⌝ }
     ensures { λ _. ⌜ now (home .exit) ≡ leaves (now (home .entry)) (dropIn (now (home .entry)) tag) ⌝ }
 {
-    match find(home, tag) {
-        Slot::At(i) => {
-            let p = cell_of(home, i);
-            let n = count_of(home, p);
-            take_out(home, tag, class_of(n), p);
-            Answer::Count(0)
-        }
-        Slot::Absent(_) => Answer::Refused(9),
-    }
+    let Slot::At(i) = find(home, tag) else {
+        return Answer::Refused(9);
+    };
+    let p = cell_of(home, i);
+    let n = count_of(home, p);
+    take_out(home, tag, class_of(n), p);
+    Answer::Count(0)
 }

@@ -73,7 +73,7 @@ module _ (w : List ℕ) (t : ℕ) (small : t < 4294967296) where
 
 -- ---- lists
 
--- "Lists are sorted by level, second, phone, those three never twice"
+-- lists are sorted by level, second, phone, those three never twice
 keys-rise : (low i j : ℕ) (xs : List Record) (z : Record) → risingFrom low xs ≡ true → i < j → j < length xs → key (getD xs i z) < key (getD xs j z)
 keys-rise low i j [] z e g h = absurd (omega arith)
 keys-rise low i zero (x ∷ xs) z e g h = absurd (omega arith)
@@ -98,7 +98,7 @@ sound-sized : (w : List ℕ) → sound w ≡ true → sized w ≡ true
 unfolding sound
 sound-sized w s = by-test (sized w) (λ e. e) (λ e. never (rw e at s))
 
--- "a read gives exactly that list"
+-- a read gives exactly that list
 pub space-reads : (w : List ℕ) (t : ℕ) → sound w ≡ true → (countSpace w t ≡ Count (length (listOf w t))) × (showSpace w t ≡ recordBytes (listOf w t))
 unfolding countSpace showSpace counted shown spaceGate
 space-reads w t s = rw (sound-sized w s, s) (refl, refl)

@@ -14,7 +14,7 @@ editAnswer w e = gatedAnswer (spaceGate w) (told (e .answer))
 abbrev pub editSpace : List ℕ → Edited → List ℕ
 editSpace w e = gatedBytes (spaceGate w) (leaves w e) w
 
--- "Put a record to a tag's list"
+-- "Put a record": to a tag's list
 unfoldable pub putAnswer : List ℕ → ℕ → Record → Answer
 putAnswer w t r = editAnswer w (putIn w t r)
 
@@ -35,7 +35,7 @@ setAnswer w t k m = editAnswer w (setIn w t k m)
 unfoldable pub setSpace : List ℕ → ℕ → ℕ → ℕ → List ℕ
 setSpace w t k m = editSpace w (setIn w t k m)
 
--- "drop a tag with its list"
+-- "drop a tag": with its list
 unfoldable pub dropAnswer : List ℕ → ℕ → Answer
 dropAnswer w t = editAnswer w (dropIn w t)
 

@@ -73,7 +73,7 @@ unfolding commandSpace
 lineSpace (Good c) l w = commandSpace l w c
 lineSpace Bad l w = w
 
--- "An output too short is refused": shorter than the longest answer, 20 bytes and 25 for each of 989 records
+-- an output too short: shorter than the longest answer, 20 bytes and 25 for each of 989 records
 abbrev pub roomy : List ℕ → Bool
 roomy out = leb 24745 (length out)
 

@@ -115,7 +115,7 @@ fn recover_committed(image: &mut [u8], n: usize) -> Outcome
     if k == 0 {
         return Outcome::Refused(4);
     }
-    if capacity < k {
+    if k > capacity {
         return Outcome::Refused(4);
     }
     if entry::rising(image, k, pages) {

@@ -21,7 +21,7 @@ tally false = 0
 
 -- ---- records
 
--- "level (1), second (4), phone (2), minutes (1)": the values that so many bytes hold, all of them legal
+-- "All values are legal": those that level's 1 byte, second's 4, phone's 2 and minutes' 1 hold
 pub record Fits (r : Record) : Type 0 where
   pub level : r .level < 256
   pub second : r .second < 4294967296
@@ -147,7 +147,7 @@ merged m (some x) (some y) = pick (keeps m Shared) (some x) none
 
 -- ---- bytes
 
--- "A record has 8 bytes: level (1), second (4), phone (2), minutes (1)", "most significant byte first"
+-- "A record has 8 bytes: level (1, ..), second .. (4), phone (2), minutes .. (1)", "most significant byte first"
 unfoldable pub bytesOf : Record → List ℕ
 bytesOf r = r .level ∷ (bytes32 (r .second) ++ (bytes16 (r .phone) ++ (r .minutes ∷ [])))
 

@@ -1,59 +1,65 @@
--- What is left, whatever reading and writing do: what some input's bytes leave.
-use mathlib.Core.Path.{_≡_, refl, sym, ap, _∙_}
+-- What a server does with the bytes that it read. What the system's read and write do is not known.
+use mathlib.Core.Path.{_≡_}
+use mathlib.Core.Bool.{Bool, true, false, _||_}
 use mathlib.Core.List.{List, [], _∷_, _++_}
-use Prim.Native.Nat.{ℕ}
-use lib.Dec.{eqb}
+use Prim.Native.Nat.{ℕ, _+_}
+use lib.Dec.{leb}
 use lib.ListN.{length, take}
-use Rattle.wire.specs.Cases.{by-test}
-use Rattle.lines.specs.Answer.{roomy, imageAfter, spaceAfter}
-use Rattle.stream.specs.declared.Fed.{Fed}
-use Rattle.stream.specs.Stream.{Open, state, next, after}
-use Rattle.stream.specs.StreamLaws.{after-append}
-use Rattle.stream.specs.Turns.{parts}
-use Rattle.stream.specs.Finish.{Feeds, finishImage, finishSpace}
+use Rattle.stream.specs.Stream.{Open, state, linesOf, answers, answered, after, said, ending, ended}
+use Rattle.serve.specs.declared.Served.{Served}
+use Rattle.serve.specs.declared.Served.the-variants.{Input, Output, Bound}
 
--- bytes lead from one state to another
-pub record Leads (s s' : Open) : Type 0 where
-  pub bytes : List ℕ
-  pub there : s' ≡ after s bytes
+-- bytes taken in, and all that they are answered written: so many bytes
+pub record Taken (s : Open) (bs : List ℕ) (sent : ℕ) (t : Open) : Type 0 where
+  pub there : t ≡ after s bs
+  pub sends : sent ≡ length (said s bs)
 
--- they leave this image and this workspace
-pub record Leaves (s : Open) (l w : List ℕ) : Type 0 where
-  pub bytes : List ℕ
-  pub image : l ≡ after s bytes .image
-  pub space : w ≡ after s bytes .space
+-- only the first of them taken in, since a write failed
+pub record Begun (s : Open) (bs l w : List ℕ) : Type 0 where
+  pub taken : ℕ
+  pub image : l ≡ after s (take taken bs) .image
+  pub space : w ≡ after s (take taken bs) .space
 
-pub leads-none : (s : Open) → Leads s s
-unfolding after
-leads-none s = record { bytes = []; there = refl }
+-- a piece passed on: whether all answers were written, how many bytes, and what is there now
+unfoldable pub Passes : Open → List ℕ → Bool → ℕ → Open → Type 0
+Passes s p true sent t = Taken s p sent t
+Passes s p false sent t = Begun s p (t .image) (t .space)
 
-pub leads-then : (a b c : Open) → Leads a b → Leads b c → Leads a c
-leads-then a b c p q =
-    record {
-      bytes = p .bytes ++ q .bytes;
-      there = q .there ∙ ap (λ (s : Open). after s (q .bytes)) (p .there) ∙ sym (after-append a (p .bytes) (q .bytes));
-    }
+-- the input so far, from image l and workspace w on: as many bytes as were read
+pub record Serving (l w : List ℕ) (read sent : ℕ) (t : Open) : Type 0 where
+  pub input : List ℕ
+  pub reads : read ≡ length input
+  pub taken : Taken (state [] l w) input sent t
 
--- a piece fed
-pub leads-fed : (s : Open) (p out : List ℕ) (f : Fed) (kept image space out' : List ℕ) → Feeds s p out f kept image space out' → Leads s (state (take (f .held) kept) image space)
-leads-fed s p out f kept image space out' g =
-    record {
-      bytes = take (f .used) p;
-      there = parts (after s (take (f .used) p)) (take (f .held) kept) image space (g .keeps) (g .images) (g .spaces);
-    }
+-- ---- how serving ends
 
--- the input's end: as a newline, where bytes of a line are kept and the output has room
-pub leaves-end : (s : Open) (out l w : List ℕ) → l ≡ finishImage s out → w ≡ finishSpace s out → Leaves s l w
-unfolding finishImage finishSpace imageAfter spaceAfter after next
-leaves-end s out l w i o =
-    by-test (eqb (length (s .kept)) 0)
-    (λ e. record { bytes = []; image = rw e at i; space = rw e at o })
-    (λ e.
-    by-test (roomy out)
-    (λ r. record { bytes = 10 ∷ []; image = rw (e, r) at i; space = rw (e, r) at o })
-    (λ r. record { bytes = []; image = rw (e, r) at i; space = rw (e, r) at o }))
+-- at the input's end: its lines are answered, one after another, and every byte of the answers is written
+pub record Whole (l w : List ℕ) (read sent : ℕ) (l' w' : List ℕ) : Type 0 where
+  pub input : List ℕ
+  pub reads : read ≡ length input
+  pub sends : sent ≡ length (answers (linesOf input) l w)
+  pub image : l' ≡ answered (linesOf input) l w .image
+  pub space : w' ≡ answered (linesOf input) l w .space
 
-pub leaves-then : (s t : Open) (l w : List ℕ) → Leads s t → Leaves t l w → Leaves s l w
-leaves-then s t l w p q =
-    let e : after t (q .bytes) ≡ after s (p .bytes ++ q .bytes) = ap (λ (x : Open). after x (q .bytes)) (p .there) ∙ sym (after-append s (p .bytes) (q .bytes)) in
-    record { bytes = p .bytes ++ q .bytes; image = q .image ∙ ap (λ (x : Open). x .image) e; space = q .space ∙ ap (λ (x : Open). x .space) e }
+-- at a write that failed; the input's end stands for a newline
+pub record Unwritten (l w : List ℕ) (read : ℕ) (l' w' : List ℕ) : Type 0 where
+  pub input : List ℕ
+  pub reads : read ≡ length input
+  pub begun : Begun (state [] l w) (input ++ (10 ∷ [])) l' w'
+
+-- at the bound: so many bytes were read or written
+pub record Full (l w : List ℕ) (read sent : ℕ) (l' w' : List ℕ) : Type 0 where
+  pub kept : List ℕ
+  pub serving : Serving l w read sent (state kept l' w')
+  pub full : leb 9223372036854775808 read || leb 9223372036854775808 sent ≡ true
+
+unfoldable pub Serves : List ℕ → List ℕ → Served → List ℕ → List ℕ → Type 0
+Serves l w (Input read sent) l' w' = Whole l w read sent l' w'
+Serves l w (Output read) l' w' = Unwritten l w read l' w'
+Serves l w (Bound read sent) l' w' = Full l w read sent l' w'
+
+-- the open line ended, after so many bytes read and written
+unfoldable pub Ends : Open → ℕ → ℕ → Served → List ℕ → List ℕ → Type 0
+Ends s read sent (Input n m) l w = (n ≡ read) × (m ≡ sent + length (ending s)) × (l ≡ ended s .image) × (w ≡ ended s .space)
+Ends s read sent (Output n) l w = (n ≡ read) × Begun s (10 ∷ []) l w
+Ends s read sent (Bound n m) l w = ⊥

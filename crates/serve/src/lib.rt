@@ -1,23 +1,39 @@
 // An index served: lines from standard input, their answers to standard output.
-use lines::Printed;
 ghost use mathlib.Core.List.{[]};
-ghost use lib.ListN.{take};
+ghost use Prim.Native.Nat.{_*_, _≤_, _<_};
+ghost use lib.ListN.{length, take};
 ghost use Rattle.stream.specs.Stream.{state};
-ghost use Rattle.serve.specs.Served.{Leads, Leaves};
+ghost use Rattle.serve.specs.Served.{Passes, Serves, Ends};
 
-// After a piece: the bytes held of a line still open, and whether to go on.
-struct Passed {
-    held: usize,
-    going: bool,
+// How serving ended, with the bytes read and the bytes written: at the input's end, at a write that
+// failed, or at a bound that no run reaches.
+pub enum Served {
+    Input(u64, u64),
+    Output(u64),
+    Bound(u64, u64),
 }
 
-// Writes the output's first n bytes.
-fn write(out: &[u8], n: usize) -> bool {
-    if n <= out.len() {
-        io::write_all(1, &out[0..n])
-    } else {
-        false
-    }
+// After a piece: the bytes held of a line still open, the bytes written, and whether all were.
+struct Passed {
+    held: usize,
+    sent: usize,
+    written: bool,
+}
+
+// Reads once, and answers how many bytes came: none at the input's end, or where reading fails.
+fn read_some(buf: &mut [u8]) -> usize
+    ensures { λ r. ⌜ r ≤ length (now (buf .exit)) ⌝ }
+{
+    let got = libc::read(0, buf);
+    io::count(got, buf)
+}
+
+// Writes the output's first n bytes, and answers n, or 0 where that failed.
+fn write(out: &[u8], n: usize) -> usize
+    requires { ⌜ n ≤ length (now out) ⌝ }
+    ensures { λ r. ⌜ r ≤ n ⌝ }
+{
+    if io::write_all(1, &out[0..n]) { n } else { 0 }
 }
 
 // Answers a piece, and writes the answers each time that the output is full.
@@ -29,81 +45,98 @@ fn pass(
     piece: &[u8],
     out: &mut [u8],
 ) -> Passed
-    ensures { λ r. ⌜ Leads (state (take held (now (kept .entry))) (now (image .entry)) (now (space .entry))) (state (take (r .held) (now (kept .exit))) (now (image .exit)) (now (space .exit))) ⌝ }
+    requires { ⌜ (held ≤ 81) × (81 ≤ length (now kept)) × (length (now piece) ≤ 65536) × (24745 ≤ length (now out)) × (length (now out) ≤ 65536) ⌝ }
+    ensures { λ r. ⌜ Passes (state (take held (now (kept .entry))) (now (image .entry)) (now (space .entry))) (now (piece .entry)) (r .written) (r .sent) (state (take (r .held) (now (kept .exit))) (now (image .exit)) (now (space .exit))) ⌝ }
+    ensures { λ r. ⌜ (r .held ≤ 81) × (r .sent ≤ 4294967296) ⌝ }
 {
     let n = piece.len();
     let mut from = 0;
     let mut holds = held;
-    let mut written = true;
+    let mut sent = 0;
     while from < n {
         let f = stream::feed(image, space, kept, holds, &piece[from..n], out);
         let used = f.used;
+        let printed = f.printed;
         holds = f.held;
-        written = write(out, f.printed);
-        if used == 0 || !written {
-            break;
+        let through = write(out, printed);
+        if through < printed {
+            return Passed {
+                held: holds,
+                sent: sent,
+                written: false,
+            };
         }
         from += used;
+        sent += through;
     }
     Passed {
         held: holds,
-        going: written,
+        sent: sent,
+        written: true,
     }
 }
 
-// Answers the line that the input's end ends.
-fn end(image: &mut [u8], space: &mut [u8], kept: &[u8], held: usize, out: &mut [u8]) -> bool
-    ensures { λ _. ⌜ Leaves (state (take held (now (kept .entry))) (now (image .entry)) (now (space .entry))) (now (image .exit)) (now (space .exit)) ⌝ }
-{
-    match stream::finish(image, space, kept, held, out) {
-        Printed::Bytes(n) => write(out, n),
-        Printed::Short => false,
-    }
-}
-
-// Reads once and answers what came. Nothing comes at the input's end.
-fn answer_some(
+// Ends the open line, as a newline does: the input is at its end.
+fn end(
     image: &mut [u8],
     space: &mut [u8],
     kept: &mut [u8],
     held: usize,
+    out: &mut [u8],
+    read: u64,
+    sent: u64,
+) -> Served
+    requires { ⌜ (held ≤ 81) × (81 ≤ length (now kept)) × (24745 ≤ length (now out)) × (length (now out) ≤ 65536) × (sent < 9223372036854775808) ⌝ }
+    ensures { λ r. ⌜ Ends (state (take held (now (kept .entry))) (now (image .entry)) (now (space .entry))) read sent r (now (image .exit)) (now (space .exit)) ⌝ }
+{
+    if held == 0 {
+        return Served::Input(read, sent);
+    }
+    let p = pass(image, space, kept, held, b"\n", out);
+    if p.written {
+        Served::Input(read, sent + p.sent as u64)
+    } else {
+        Served::Output(read)
+    }
+}
+
+// Answers standard input to its end.
+fn answer_all(
+    image: &mut [u8],
+    space: &mut [u8],
+    kept: &mut [u8],
     buf: &mut [u8],
     out: &mut [u8],
-) -> Passed
-    ensures { λ r. ⌜ Leads (state (take held (now (kept .entry))) (now (image .entry)) (now (space .entry))) (state (take (r .held) (now (kept .exit))) (now (image .exit)) (now (space .exit))) ⌝ }
-{
-    let got = libc::read(0, buf);
-    let n = io::count(got, buf);
-    if n == 0 {
-        return Passed {
-            held: held,
-            going: false,
-        };
-    }
-    pass(image, space, kept, held, &buf[0..n], out)
-}
-
-// Answers standard input to its end. A proved loop has to end, so it counts its turns down, from a
-// number that no run uses up.
-fn answer_all(image: &mut [u8], space: &mut [u8], kept: &mut [u8], buf: &mut [u8], out: &mut [u8])
-    ensures { λ _. ⌜ Leaves (state [] (now (image .entry)) (now (space .entry))) (now (image .exit)) (now (space .exit)) ⌝ }
+) -> Served
+    requires { ⌜ (81 ≤ length (now kept)) × (length (now buf) ≤ 65536) × (24745 ≤ length (now out)) × (length (now out) ≤ 65536) ⌝ }
+    ensures { λ r. ⌜ Serves (now (image .entry)) (now (space .entry)) r (now (image .exit)) (now (space .exit)) ⌝ }
 {
     let mut held = 0;
-    let mut turns = u64::MAX;
-    while turns > 0 {
-        let p = answer_some(image, space, kept, held, buf, out);
+    let mut read: u64 = 0;
+    let mut sent: u64 = 0;
+    while read < 9223372036854775808 && sent < 9223372036854775808 {
+        let n = read_some(buf);
+        if n == 0 {
+            return end(image, space, kept, held, out, read, sent);
+        }
+        let p = pass(image, space, kept, held, &buf[0..n], out);
         held = p.held;
-        turns = if p.going { turns - 1 } else { 0 };
+        read += n as u64;
+        if !p.written {
+            return Served::Output(read);
+        }
+        sent += p.sent as u64;
     }
-    end(image, space, kept, held, out);
+    Served::Bound(read, sent)
 }
 
-// Serves the index on an image. Whatever reading and writing do, it leaves what some input's bytes leave.
-pub fn serve(image: &mut [u8], space: &mut [u8])
-    ensures { λ _. ⌜ Leaves (state [] (now (image .entry)) (now (space .entry))) (now (image .exit)) (now (space .exit)) ⌝ }
+// Serves the index on an image. At the input's end its lines are answered, one after another, and
+// image and workspace are what they leave.
+pub fn serve(image: &mut [u8], space: &mut [u8]) -> Served
+    ensures { λ r. ⌜ Serves (now (image .entry)) (now (space .entry)) r (now (image .exit)) (now (space .exit)) ⌝ }
 {
     let mut kept = [0u8; 81];
     let mut buf = io::large_buffer();
     let mut out = io::large_buffer();
-    answer_all(image, space, &mut kept, &mut buf, &mut out);
+    answer_all(image, space, &mut kept, &mut buf, &mut out)
 }

@@ -1,5 +1,5 @@
 -- One turn of each loop that tests home, and the test of a dictionary entry by the block that it leads to.
-use mathlib.Core.Path.{_≡_, refl, ap}
+use mathlib.Core.Path.{_≡_, refl, sym, ap}
 use mathlib.Core.Bool.{Bool, true, false, _&&_, _||_, and-assoc}
 use mathlib.Core.List.{List}
 use Prim.Native.Nat.{ℕ, zero, suc, _+_, _*_, _-_, _/_, _%_, _≤_, _<_}
@@ -119,6 +119,20 @@ blocks-at h c p (suc n) t (suc j) b =
 
 -- ---- a zone
 
+-- what is false of three tests is false of four
+and-stops : (a b c d : Bool) → a && (b && c) ≡ false → false ≡ a && (b && (c && d))
+and-stops true true true d t = never (sym t)
+and-stops true true false d t = refl
+and-stops true false c d t = refl
+and-stops false b c d t = refl
+
+-- where a zone lies that is not astray
+pub zone-lies : (area e s f m : ℕ) → leb e f && (ltb f (e + s) && leb (f + m * s) area) ≡ true → (e ≤ f) × (f < e + s) × (f + m * s ≤ area)
+zone-lies area e s f m t =
+    let a = both (leb e f) (ltb f (e + s) && leb (f + m * s) area) t in
+    let b = both (ltb f (e + s)) (leb (f + m * s) area) (a .1) in
+    (leb-true e f (a .0), ltb-true f (e + s) (b .0), leb-true (f + m * s) area (b .1))
+
 -- a number of 2 bytes times a block's size
 pub zone-fits : (m s : ℕ) → m < 65536 → s ≤ 990 → m * s ≤ 64880640
 zone-fits m s a b = mul-le-mul {n₁ = m} {m₁ = s} {n₂ = 65536} {m₂ = 990} (omega arith) b
@@ -128,17 +142,12 @@ module _ (h : List ℕ) (area c e f m s : ℕ) (ef : f ≡ firstAt h c) (em : m 
   unfolding zoneFine
   zone-empty q = rw (← ef, ← em, eq-eqb m 0 q)
 
-  pub zone-early : (m ≡ 0 → ⊥) → f < e → false ≡ zoneFine h area c e
+  -- where it lies
+  pub zone-astray : (m ≡ 0 → ⊥) → leb e f && (ltb f (e + s) && leb (f + m * s) area) ≡ false → false ≡ zoneFine h area c e
   unfolding zoneFine
-  zone-early q a = rw (← ef, ← em, ne-eqb m 0 q, lt-leb e f a)
-
-  pub zone-late : (m ≡ 0 → ⊥) → e ≤ f → e + s ≤ f → false ≡ zoneFine h area c e
-  unfolding zoneFine
-  zone-late q a b = rw (← ef, ← em, ← es, ne-eqb m 0 q, le-leb e f a, le-ltb f (e + s) b)
-
-  pub zone-long : (m ≡ 0 → ⊥) → e ≤ f → f < e + s → area < f + m * s → false ≡ zoneFine h area c e
-  unfolding zoneFine
-  zone-long q a b d = rw (← ef, ← em, ← es, ne-eqb m 0 q, le-leb e f a, lt-ltb f (e + s) b, lt-leb (f + m * s) area d)
+  zone-astray q t =
+      rw (← ef, ← em, ← es, ne-eqb m 0 q)
+      (and-stops (leb e f) (ltb f (e + s)) (leb (f + m * s) area) (blank (part h (cellAt e) (8 * (f - e))) && blocksFine h c f m) t)
 
   module _ (q : m ≡ 0 → ⊥) (a : e ≤ f) (b : f < e + s) (d : f + m * s ≤ area) where
     pub zone-gap : blank (part h (cellAt e) (8 * (f - e))) ≡ false → false ≡ zoneFine h area c e

@@ -7,9 +7,9 @@ use home::lookup::zone_count;
 use home::lookup::zone_first;
 ghost use mathlib.Core.Path.{_≡_};
 ghost use mathlib.Core.Bool.{true, _&&_};
-ghost use Prim.Native.Nat.{_+_, _*_, _≤_, _<_};
+ghost use Prim.Native.Nat.{_+_, _*_, _^_, _≤_, _<_};
 ghost use lib.ListN.{length};
-ghost use lib.Dec.{eqb};
+ghost use lib.Dec.{leb, ltb, eqb};
 ghost use Rattle.wire.specs.Bytes.{part, blank, get16};
 ghost use Rattle.records.specs.Records.{rising as ordered, records};
 ghost use Rattle.home.specs.Capacities.{capacity as capacityOf, under as underOf, cells as cellsOf, short};
@@ -89,9 +89,18 @@ fn blocks_fine(home: &[u8], c: usize, p: usize, n: usize) -> bool
     true
 }
 
+// Whether a zone of `many` blocks lies behind the lower zones, which end at cell e, with a gap of less
+// than a block, and inside the area.
+fn lies(first: usize, many: usize, size: usize, e: usize, area: usize) -> bool
+    requires { ⌜ (first < 65536) × (many < 65536) × (size ≤ 990) × (e + size < 2 ^ 64) ⌝ }
+    ensures { λ r. ⌜ r ≡ leb e first && (ltb first (e + size) && leb (first + many * size) area) ⌝ }
+{
+    (e <= first) & ((first < e + size) & (first + many * size <= area))
+}
+
 // Zone c, where the lower zones end at cell e.
 fn zone_fine(home: &[u8], area: usize, c: usize, e: usize) -> bool
-    requires { ⌜ (c < 30) × (cellAt area ≤ length (now home)) ⌝ }
+    requires { ⌜ (c < 30) × (e ≤ area) × (cellAt area ≤ length (now home)) ⌝ }
     ensures { λ r. ⌜ r ≡ zoneFine (now (home .entry)) area c e ⌝ }
 {
     let first = zone_first(home, c);
@@ -99,14 +108,8 @@ fn zone_fine(home: &[u8], area: usize, c: usize, e: usize) -> bool
     if many == 0 {
         return first == 0;
     }
-    if first < e {
-        return false;
-    }
     let size = cells(c);
-    if e + size <= first {
-        return false;
-    }
-    if area < first + many * size {
+    if !lies(first, many, size, e, area) {
         return false;
     }
     if !zeros(home, 1664 + 8 * e, 8 * (first - e)) {

@@ -4,7 +4,7 @@ use mathlib.Core.List.{List, [], _∷_}
 use Prim.Native.Nat.{ℕ}
 use Rattle.stream.specs.Stream.{linesOf}
 
--- no input; one newline; "a"; "a", newline; "a", newline, newline, "bc"
+-- no input; one newline; `a`; `a`, newline; `a`, newline, newline, `bc`
 pub inputs : List (List ℕ)
 inputs = [] ∷ (10 ∷ []) ∷ (97 ∷ []) ∷ (97 ∷ 10 ∷ []) ∷ (97 ∷ 10 ∷ 10 ∷ 98 ∷ 99 ∷ []) ∷ []
 

@@ -1,5 +1,5 @@
 pub mod Stream
-pub mod Finish
+pub mod Feeds
 pub mod StreamLaws
 pub mod Whole
 pub mod Turns

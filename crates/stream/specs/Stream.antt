@@ -54,6 +54,17 @@ unfoldable pub said : Open → List ℕ → List ℕ
 said s [] = []
 said s (b ∷ bs) = reply s b ++ said (next s b) bs
 
+-- ---- at the input's end
+
+-- what is there once lines are answered
+unfoldable pub answered : List (List ℕ) → List ℕ → List ℕ → Open
+answered [] l w = state [] l w
+answered (x ∷ xs) l w = answered xs (lineImage (parsed x) l w) (lineSpace (parsed x) l w)
+
+-- and once the input's end has ended the open line, as a newline does; where no byte is kept no line is open
+unfoldable pub ended : Open → Open
+ended s = pick (eqb (length (s .kept)) 0) (state [] (s .image) (s .space)) (next s 10)
+
 -- the answer to a line that the input's end ends
 unfoldable pub ending : Open → List ℕ
 ending s = pick (eqb (length (s .kept)) 0) [] (lineText (parsed (s .kept)) (s .image) (s .space))

@@ -7,18 +7,15 @@ use native.Mathlib.Nat.{sub-zero}
 use native.Mathlib.Numerals.{add-one}
 use lib.ListN.{length, take, drop, length-append, length-drop}
 use lib.Seq.{take-all, length-take-le, take-append-add, take-append-seam, take-length, take-add}
-use borrow.Author.Tests.{eq-eqb, ne-eqb}
 use Rattle.wire.specs.Bytes.{over}
 use Rattle.wire.specs.BytesLaws.{over-is, over-nil, over-append, over-part}
 use Rattle.parse.specs.Grammar.{parsed}
 use Rattle.parse.specs.ParseLaws.{before}
-use Rattle.lines.specs.declared.Printed.{Printed}
-use Rattle.lines.specs.Answer.{lineText, lineImage, lineSpace, printedOf, outOf, imageAfter, spaceAfter}
+use Rattle.lines.specs.Answer.{lineText, lineImage, lineSpace}
 use Rattle.stream.specs.declared.Fed.{Fed}
 use Rattle.stream.specs.Stream.{Open, state, clip, after, said}
 use Rattle.stream.specs.StreamLaws.{clip-short, after-append, said-append, parsed-clip, held-on, closed, line-ended}
-use Rattle.lines.specs.declared.Printed.the-variants.{Bytes}
-use Rattle.stream.specs.Finish.{Feeds, finishPrinted, finishOut, finishImage, finishSpace}
+use Rattle.stream.specs.Feeds.{Feeds}
 
 -- ---- bytes kept
 
@@ -100,19 +97,6 @@ module _ (kept image space piece out : List ℕ) (held : ℕ) (g : held ≤ 81) 
         counts = c ∙ ap length (sym b);
         fits = m;
       }
-
--- ---- the input's end
-
-module _ (image space out : List ℕ) (k line : List ℕ) (e : line ≡ k) where
-  pub finish-none : length line ≡ 0 → (Bytes 0 ≡ finishPrinted (state k image space) out) × (out ≡ finishOut (state k image space) out) × (image ≡ finishImage (state k image space) out) × (space ≡ finishSpace (state k image space) out)
-  unfolding finishPrinted finishOut finishImage finishSpace
-  finish-none z = rw (eq-eqb (length k) 0 (ap length (sym e) ∙ z)) (refl, refl, refl, refl)
-
-  pub finish-some : (p : Printed) (out' image' space' : List ℕ) → (length line ≡ 0 → ⊥) → p ≡ printedOf image space line out → out' ≡ outOf image space line out
-      → image' ≡ imageAfter image space line out → space' ≡ spaceAfter image space line out
-      → (p ≡ finishPrinted (state k image space) out) × (out' ≡ finishOut (state k image space) out) × (image' ≡ finishImage (state k image space) out) × (space' ≡ finishSpace (state k image space) out)
-  unfolding finishPrinted finishOut finishImage finishSpace
-  finish-some p out' image' space' z a b c d = rw (ne-eqb (length k) 0 (λ q. z (ap length e ∙ q)), ← e) (a, b, c, d)
 
 -- ---- the loop over a piece's lines
 

@@ -10,7 +10,7 @@ use Rattle.wire.specs.Cases.{by-test}
 use Rattle.parse.specs.declared.Parsed.{Parsed}
 use Rattle.parse.specs.Grammar.{onto, parsed}
 use Rattle.lines.specs.Answer.{lineText, lineImage, lineSpace}
-use Rattle.stream.specs.Stream.{linesOf, answers, Open, state, clip, after, said, ending}
+use Rattle.stream.specs.Stream.{linesOf, answers, answered, Open, state, clip, after, said, ending, ended}
 use Rattle.stream.specs.StreamLaws.{parsed-clip, after-append, said-append, next-kept, next-none, closed, next-closed, next-reply}
 
 -- lines behind the bytes of one that is open
@@ -56,6 +56,40 @@ rest-answered k l w (b ∷ bs) =
     (λ e. rw (e, next-none (state (clip k) l w) b e, next-kept k l w b e)
     (rest-answered (k ++ (b ∷ [])) l w bs ∙ ap (λ (xs : List (List ℕ)). answers xs l w) (sym (behind-onto k b (linesOf bs)))))
 
+-- what they leave
+ends-left : (k l w : List ℕ) → ended (state (clip k) l w) ≡ answered (behind k []) l w
+unfolding ended answered behind clip
+ends-left [] l w = refl
+ends-left (b ∷ k) l w =
+    rw (ne-eqb (length (clip (b ∷ k))) 0 (λ q. absurd (omega (arith, q)))) (next-closed (b ∷ k) l w 10 refl)
+
+first-left : (k l w : List ℕ) (xs : List (List ℕ)) → answered xs (lineImage (parsed k) l w) (lineSpace (parsed k) l w) ≡ answered (behind k ([] ∷ xs)) l w
+unfolding answered behind
+first-left k l w xs = rw (append-nil k) refl
+
+rest-left : (k l w bs : List ℕ) → ended (after (state (clip k) l w) bs) ≡ answered (behind k (linesOf bs)) l w
+unfolding after linesOf clip
+rest-left k l w [] = ends-left k l w
+rest-left k l w (b ∷ bs) =
+    by-test (eqb b 10)
+    (λ e. rw (e, next-closed k l w b e)
+    (rest-left [] (lineImage (parsed k) l w) (lineSpace (parsed k) l w) bs ∙ ap (λ (xs : List (List ℕ)). answered xs (lineImage (parsed k) l w) (lineSpace (parsed k) l w)) (behind-none (linesOf bs))
+    ∙ first-left k l w (linesOf bs)))
+    (λ e. rw (e, next-kept k l w b e)
+    (rest-left (k ++ (b ∷ [])) l w bs ∙ ap (λ (xs : List (List ℕ)). answered xs l w) (sym (behind-onto k b (linesOf bs)))))
+
+-- ---- a whole input
+
+-- "A line ends at a newline byte, not counted, or at the input's end": what is answered is the answers to the input's lines
+pub input-answered : (l w bs : List ℕ) → said (state [] l w) bs ++ ending (after (state [] l w) bs) ≡ answers (linesOf bs) l w
+unfolding clip
+input-answered l w bs = rest-answered [] l w bs ∙ ap (λ (xs : List (List ℕ)). answers xs l w) (behind-none (linesOf bs))
+
+-- and what is left is what they leave
+pub input-left : (l w bs : List ℕ) → ended (after (state [] l w) bs) ≡ answered (linesOf bs) l w
+unfolding clip
+input-left l w bs = rest-left [] l w bs ∙ ap (λ (xs : List (List ℕ)). answered xs l w) (behind-none (linesOf bs))
+
 -- ---- pieces
 
 -- each piece taken in on what the one before left
@@ -81,9 +115,6 @@ unfolding saidAll joined said
 said-joined s [] = refl
 said-joined s (p ∷ ps) = ap (λ (t : List ℕ). said s p ++ t) (said-joined (after s p) ps) ∙ sym (said-append s p (joined ps))
 
--- "A line ends at a newline byte, not counted, or at the input's end": however the input arrives in pieces, what is answered is the answers to its lines
+-- however the input arrives in pieces, what is answered is the answers to its lines
 pub pieces-answered : (l w : List ℕ) (ps : List (List ℕ)) → saidAll (state [] l w) ps ++ ending (afterAll (state [] l w) ps) ≡ answers (linesOf (joined ps)) l w
-unfolding clip
-pieces-answered l w ps =
-    rw (after-joined (state [] l w) ps, said-joined (state [] l w) ps)
-    (rest-answered [] l w (joined ps) ∙ ap (λ (xs : List (List ℕ)). answers xs l w) (behind-none (linesOf (joined ps))))
+pieces-answered l w ps = rw (after-joined (state [] l w) ps, said-joined (state [] l w) ps) (input-answered l w (joined ps))

@@ -1,6 +1,4 @@
 // Input in pieces, split into lines, each answered.
-use lines::Printed;
-use lines::answer::answer;
 use lines::answer::answer_line;
 use parse::find;
 ghost use mathlib.Core.Path.{_≡_};
@@ -11,7 +9,7 @@ ghost use Rattle.wire.specs.Bytes.{over};
 ghost use Rattle.parse.specs.Grammar.{parsed};
 ghost use Rattle.lines.specs.Answer.{lineText, lineImage, lineSpace};
 ghost use Rattle.stream.specs.Stream.{state, clip};
-ghost use Rattle.stream.specs.Finish.{Feeds, finishPrinted, finishOut, finishImage, finishSpace};
+ghost use Rattle.stream.specs.Feeds.{Feeds};
 
 // Of a piece: the bytes used, the bytes held of a line still open, the bytes printed.
 pub struct Fed {
@@ -127,7 +125,8 @@ fn feed_lines(
 }
 
 // Takes in a piece: answers its lines as far as the output has room, and keeps what is left of an open line.
-// Nothing is used where fewer than 81 bytes can be kept, or more are held.
+// Nothing is used where fewer than 81 bytes can be kept, or more are held. The input's end is a newline
+// where bytes are held, and nothing else.
 pub fn feed(
     image: &mut [u8],
     space: &mut [u8],
@@ -151,33 +150,4 @@ pub fn feed(
         return none;
     }
     feed_lines(image, space, kept, held, piece, out)
-}
-
-// The bytes held.
-fn held_part(kept: &[u8], held: usize) -> &[u8]
-    ensures { λ r. ⌜ now r ≡ take held (now (kept .entry)) ⌝ }
-{
-    if held <= kept.len() {
-        &kept[0..held]
-    } else {
-        kept
-    }
-}
-
-// Answers the line that the input's end ends, if bytes of one are held.
-pub fn finish(
-    image: &mut [u8],
-    space: &mut [u8],
-    kept: &[u8],
-    held: usize,
-    out: &mut [u8],
-) -> Printed
-    ensures { λ r. ⌜ (r ≡ finishPrinted (state (take held (now (kept .entry))) (now (image .entry)) (now (space .entry))) (now (out .entry))) × (now (out .exit) ≡ finishOut (state (take held (now (kept .entry))) (now (image .entry)) (now (space .entry))) (now (out .entry))) ⌝ }
-    ensures { λ _. ⌜ (now (image .exit) ≡ finishImage (state (take held (now (kept .entry))) (now (image .entry)) (now (space .entry))) (now (out .entry))) × (now (space .exit) ≡ finishSpace (state (take held (now (kept .entry))) (now (image .entry)) (now (space .entry))) (now (out .entry))) ⌝ }
-{
-    let line = held_part(kept, held);
-    if line.len() == 0 {
-        return Printed::Bytes(0);
-    }
-    answer(image, space, line, out)
 }

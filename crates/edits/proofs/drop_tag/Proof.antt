@@ -14,6 +14,15 @@ find-requires c κs = sound-ordered _ (c .before .before .pre)
 enum-known-i : tie.Need-enum-known-i
 enum-known-i c = search needs
 
+enum-told : tie.Need-enum-told
+enum-told c = search needs
+
+same-length : tie.Need-same-length
+same-length c = search needs
+
+returns : tie.Need-returns
+returns c = drop-unknown _ _ (c .before .before .before .before .before .pre) (absent-new _ _ _ (c .before .before .before .before .before .pre) (sym (c .before .before .find .ensures) ∙ c .enum-told .given .1))
+
 cell-of-requires : tie.Need-cell-of-requires
 cell-of-requires c κs = entry-under _ _ _ (c .before .before .before .before .before .before .before .pre) (sym (c .before .before .before .before .find .ensures) ∙ c .before .before .i .given .1)
 
@@ -26,20 +35,11 @@ class-of-requires c κs = let l = entry-listed _ _ _ (c .before .before .before 
 take-out-requires : tie.Need-take-out-requires
 take-out-requires c κs = rw (c .class-of .ensures) (listed-known _ _ _ _ (entry-listed _ _ _ (c .before .before .before .before .before .before .before .before .before .before .before .before .pre) (sym (c .before .before .before .before .before .before .before .before .before .find .ensures) ∙ c .before .before .before .before .before .before .before .i .given .1) _ _ (c .before .before .before .before .cell-of .ensures .0) (c .before .before .count-of .ensures .0)))
 
-enum-told : tie.Need-enum-told
-enum-told c = search needs
-
-same-length : tie.Need-same-length
-same-length c = search needs
-
-returns : tie.Need-returns
-returns c = let l = entry-listed _ _ _ (c .before .before .before .before .before .before .before .before .before .before .before .before .before .before .before .pre) (sym (c .before .before .before .before .before .before .before .before .before .before .before .before .find .ensures) ∙ c .before .before .before .before .before .before .before .before .before .before .i .given .1) _ _ (c .before .before .before .before .before .before .before .cell-of .ensures .0) (c .before .before .before .before .before .count-of .ensures .0) in let d = drop-done _ _ _ _ l in (d .0, c .before .before .take-out .ensures ∙ changed-none _ _ _ _ l ∙ d .1)
-
 same-length-2 : tie.Need-same-length-2
 same-length-2 c = search needs
 
 returns-2 : tie.Need-returns-2
-returns-2 c = drop-unknown _ _ (c .before .before .before .before .before .pre) (absent-new _ _ _ (c .before .before .before .before .before .pre) (sym (c .before .before .find .ensures) ∙ c .enum-told .given .1))
+returns-2 c = let l = entry-listed _ _ _ (c .before .before .before .before .before .before .before .before .before .before .before .before .before .before .before .pre) (sym (c .before .before .before .before .before .before .before .before .before .before .before .before .find .ensures) ∙ c .before .before .before .before .before .before .before .before .before .before .i .given .1) _ _ (c .before .before .before .before .before .before .before .cell-of .ensures .0) (c .before .before .before .before .before .count-of .ensures .0) in let d = drop-done _ _ _ _ l in (d .0, c .before .before .take-out .ensures ∙ changed-none _ _ _ _ l ∙ d .1)
 
 pub drop-tag-spec : {M : Type 1} → statement M
 drop-tag-spec =
@@ -47,12 +47,12 @@ drop-tag-spec =
     (tie.spec
     find-requires
     enum-known-i
+    enum-told
+    same-length
+    returns
     cell-of-requires
     count-of-requires
     class-of-requires
     take-out-requires
-    enum-told
-    same-length
-    returns
     same-length-2
     returns-2)

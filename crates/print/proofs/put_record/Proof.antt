@@ -10,12 +10,12 @@ cast-put-field c = search needs
 put-field-requires : tie.Need-put-field-requires
 put-field-requires c κs =
     let r = c .before .before .before .args .r in
-    omega (arith, field-three (r .level) 44 (omega arith))
+    omega (arith, field-three (r .level) 44 (omega arith), field-three (r .minutes) 44 (omega arith))
 
 put-field-requires-2 : tie.Need-put-field-requires-2
 put-field-requires-2 c κs =
     let r = c .before .before .before .before .before .before .before .args .r in
-    omega (arith, field-three (r .level) 44 (omega arith), field-ten (r .second) 44 (omega arith))
+    omega (arith, field-three (r .level) 44 (omega arith), field-three (r .minutes) 44 (omega arith), field-ten (r .second) 44 (omega arith))
 
 cast-put-field-2 : tie.Need-cast-put-field-2
 cast-put-field-2 c = search needs
@@ -23,7 +23,7 @@ cast-put-field-2 c = search needs
 put-field-requires-3 : tie.Need-put-field-requires-3
 put-field-requires-3 c κs =
     let r = c .before .before .before .before .before .before .before .before .before .before .before .before .args .r in
-    omega (arith, field-three (r .level) 44 (omega arith), field-ten (r .second) 44 (omega arith), field-five (r .phone) 44 (omega arith))
+    omega (arith, field-three (r .level) 44 (omega arith), field-three (r .minutes) 44 (omega arith), field-ten (r .second) 44 (omega arith), field-five (r .phone) 44 (omega arith))
 
 cast-put-field-3 : tie.Need-cast-put-field-3
 cast-put-field-3 c = search needs
@@ -31,7 +31,7 @@ cast-put-field-3 c = search needs
 put-field-requires-4 : tie.Need-put-field-requires-4
 put-field-requires-4 c κs =
     let r = c .before .before .before .before .before .before .before .before .before .before .before .before .before .before .before .before .before .args .r in
-    omega (arith, field-three (r .level) 44 (omega arith), field-ten (r .second) 44 (omega arith), field-five (r .phone) 44 (omega arith), field-three (r .minutes) 10 (omega arith))
+    omega (arith, field-three (r .level) 44 (omega arith), field-ten (r .second) 44 (omega arith), field-five (r .phone) 44 (omega arith), field-three (r .minutes) 44 (omega arith), field-three (r .minutes) 10 (omega arith))
 
 same-length : tie.Need-same-length
 same-length c = search needs

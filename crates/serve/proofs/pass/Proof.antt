@@ -1,24 +1,26 @@
 use mathlib.Core.Path.{_≡_, refl}
-use Prim.Native.Nat.{_-_, _≤_}
+use Prim.Native.Nat.{_+_, _*_, _-_, _≤_}
 use native.Mathlib.Omega.{arith}
 use lib.ListN.{length, take}
 use Rattle.stream.specs.Stream.{state}
-use Rattle.serve.specs.Served.{Leads, leads-none, leads-then, leads-fed}
+use Rattle.serve.specs.Served.{Taken, Passes}
+use Rattle.serve.specs.ServedLaws.{taken-none, taken-turn, turn-uses, taken-whole, taken-begun}
 use borrow.Author.Needs.{needs}
 use Rattle.serve.proofs.pass.Statement.{statement}
 use Rattle.serve.proofs.pass.Tie as tie
 
 abbrev Inv-loop : tie.InvT-loop
-Inv-loop image₀ space₀ kept₀ held piece out₀ n from₀ holds₀ written₀ image space kept out from holds written =
-    Leads (state (take held kept₀) image₀ space₀) (state (take holds kept) image space)
-    × (from ≤ length piece) × (length image ≡ length image₀) × (length space ≡ length space₀) × (length kept ≡ length kept₀) × (length out ≡ length out₀)
+Inv-loop image₀ space₀ kept₀ held piece out₀ n from₀ holds₀ sent₀ image space kept out from holds sent =
+    Taken (state (take held kept₀) image₀ space₀) (take from piece) sent (state (take holds kept) image space)
+    × (from ≤ length piece) × (holds ≤ 81) × (sent ≤ 65536 * from)
+    × (length image ≡ length image₀) × (length space ≡ length space₀) × (length kept ≡ length kept₀) × (length out ≡ length out₀)
 
 abbrev μ-loop : tie.MeasureT-loop
-μ-loop image₀ space₀ kept₀ held piece out₀ n from₀ holds₀ written₀ image space kept out from holds written =
+μ-loop image₀ space₀ kept₀ held piece out₀ n from₀ holds₀ sent₀ image space kept out from holds sent =
     length piece - from
 
 loop-holds : tie.Need-loop-holds Inv-loop μ-loop
-loop-holds c = (leads-none _, omega arith, refl, refl, refl, refl)
+loop-holds c = (taken-none _, omega arith, omega arith, omega arith, refl, refl, refl, refl)
 
 sub-feed : tie.Need-sub-feed Inv-loop μ-loop
 sub-feed c = search needs
@@ -35,15 +37,6 @@ feed-requires c κs = search needs
 write-requires : tie.Need-write-requires Inv-loop μ-loop
 write-requires c κs = search needs
 
-add-from : tie.Need-add-from Inv-loop μ-loop
-add-from c = omega (arith, c .before .before .before .before .before .before .before .before .before .before .before .before .feed .ensures .0 .within)
-
-loop-less : tie.Need-loop-less Inv-loop μ-loop
-loop-less c = omega (arith, c .before .before .before .before .before .before .before .before .before .before .before .before .feed .ensures .0 .within)
-
-loop-again : tie.Need-loop-again Inv-loop μ-loop
-loop-again c = (leads-then _ _ _ (c .before .before .before .before .before .before .before .before .before .before .before .before .before .before .before .before .before .before .before .loop .inv .0) (leads-fed _ _ _ _ _ _ _ _ (c .before .before .before .before .before .before .before .before .before .before .before .before .feed .ensures .0)), omega (arith, c .before .before .before .before .before .before .before .before .before .before .before .before .feed .ensures .0 .within), omega arith, omega arith, omega arith, omega arith)
-
 same-length : tie.Need-same-length Inv-loop μ-loop
 same-length c = search needs
 
@@ -57,7 +50,43 @@ same-length-4 : tie.Need-same-length-4 Inv-loop μ-loop
 same-length-4 c = search needs
 
 returns : tie.Need-returns Inv-loop μ-loop
-returns c = c .before .loop .inv .0
+unfolding Passes
+returns c =
+    let i = c .before .before .before .before .before .before .before .before .before .before .before .before .before .before .before .before .before .before .loop .inv in
+    let f = c .before .before .before .before .before .before .before .before .before .before .before .feed .ensures in
+    let h = f .1 (i .2, omega arith) in
+    (taken-begun _ _ (c .before .before .before .before .before .before .before .before .before .before .before .before .before .before .before .before .before .before .loop .from + c .before .before .before .before .before .before .before .before .before .before .before .feed .result .used) _ _ (taken-turn _ _ (c .before .before .before .before .before .before .before .before .before .before .before .before .before .before .before .before .before .before .before .before .before .before .before .before .args .piece .now) _ (c .before .before .before .before .before .before .before .before .before .before .before .before .before .before .before .before .before .before .loop .from) _ _ _ _ _ _ _ (i .0) (f .0) refl), (h .0, omega arith))
+
+add-from : tie.Need-add-from Inv-loop μ-loop
+add-from c =
+    let i = c .before .before .before .before .before .before .before .before .before .before .before .before .before .before .before .before .before .before .loop .inv in
+    let f = c .before .before .before .before .before .before .before .before .before .before .before .feed .ensures in
+    let h = f .1 (i .2, omega arith) in
+    let u = turn-uses _ (c .before .before .before .before .before .before .before .before .before .before .before .before .before .before .before .before .before .before .before .before .before .before .before .before .args .piece .now) (c .before .before .before .before .before .before .before .before .before .before .before .before .before .before .before .before .before .before .loop .out) (c .before .before .before .before .before .before .before .before .before .before .before .before .before .before .before .before .before .before .loop .from) _ _ _ _ _ (f .0) (h .1) (omega arith) (omega arith) in
+    omega (arith, u .1)
+
+add-sent : tie.Need-add-sent Inv-loop μ-loop
+add-sent c =
+    let i = c .before .before .before .before .before .before .before .before .before .before .before .before .before .before .before .before .before .before .loop .inv in
+    let f = c .before .before .before .before .before .before .before .before .before .before .before .feed .ensures in
+    let h = f .1 (i .2, omega arith) in
+    omega arith
+
+loop-less : tie.Need-loop-less Inv-loop μ-loop
+loop-less c =
+    let i = c .before .before .before .before .before .before .before .before .before .before .before .before .before .before .before .before .before .before .loop .inv in
+    let f = c .before .before .before .before .before .before .before .before .before .before .before .feed .ensures in
+    let h = f .1 (i .2, omega arith) in
+    let u = turn-uses _ (c .before .before .before .before .before .before .before .before .before .before .before .before .before .before .before .before .before .before .before .before .before .before .before .before .args .piece .now) (c .before .before .before .before .before .before .before .before .before .before .before .before .before .before .before .before .before .before .loop .out) (c .before .before .before .before .before .before .before .before .before .before .before .before .before .before .before .before .before .before .loop .from) _ _ _ _ _ (f .0) (h .1) (omega arith) (omega arith) in
+    omega (arith, u .0)
+
+loop-again : tie.Need-loop-again Inv-loop μ-loop
+loop-again c =
+    let i = c .before .before .before .before .before .before .before .before .before .before .before .before .before .before .before .before .before .before .loop .inv in
+    let f = c .before .before .before .before .before .before .before .before .before .before .before .feed .ensures in
+    let h = f .1 (i .2, omega arith) in
+    let u = turn-uses _ (c .before .before .before .before .before .before .before .before .before .before .before .before .before .before .before .before .before .before .before .before .before .before .before .before .args .piece .now) (c .before .before .before .before .before .before .before .before .before .before .before .before .before .before .before .before .before .before .loop .out) (c .before .before .before .before .before .before .before .before .before .before .before .before .before .before .before .before .before .before .loop .from) _ _ _ _ _ (f .0) (h .1) (omega arith) (omega arith) in
+    (taken-turn _ _ (c .before .before .before .before .before .before .before .before .before .before .before .before .before .before .before .before .before .before .before .before .before .before .before .before .args .piece .now) _ (c .before .before .before .before .before .before .before .before .before .before .before .before .before .before .before .before .before .before .loop .from) _ _ _ _ _ _ _ (i .0) (f .0) (omega arith), omega (arith, u .1), h .0, omega (arith, u .0), omega arith, omega arith, omega arith, omega arith)
 
 same-length-5 : tie.Need-same-length-5 Inv-loop μ-loop
 same-length-5 c = search needs
@@ -72,7 +101,8 @@ same-length-8 : tie.Need-same-length-8 Inv-loop μ-loop
 same-length-8 c = search needs
 
 returns-2 : tie.Need-returns-2 Inv-loop μ-loop
-returns-2 c = leads-then _ _ _ (c .before .before .before .before .before .before .before .before .before .before .before .before .before .before .before .before .before .before .loop .inv .0) (leads-fed _ _ _ _ _ _ _ _ (c .before .before .before .before .before .before .before .before .before .before .before .feed .ensures .0))
+unfolding Passes
+returns-2 c = (taken-whole _ _ (c .before .before .before .before .before .before .before .args .piece .now) (c .before .loop .from) _ (omega arith) (c .before .loop .inv .0), (omega arith, omega arith))
 
 pub pass-spec : {M : Type 1} → statement M
 pass-spec =
@@ -86,14 +116,15 @@ pass-spec =
     part-feed-end
     feed-requires
     write-requires
-    add-from
-    loop-less
-    loop-again
     same-length
     same-length-2
     same-length-3
     same-length-4
     returns
+    add-from
+    add-sent
+    loop-less
+    loop-again
     same-length-5
     same-length-6
     same-length-7

@@ -5,7 +5,7 @@ use mathlib.Core.Path.{refl, sym, _∙_}
 use Rattle.home.specs.Capacities.{cells}
 use native.Mathlib.Omega.{arith}
 use borrow.Author.Tests.{not-true, not-false}
-use Rattle.sound.specs.CheckTurns.{zone-fits, zone-empty, zone-early, zone-late, zone-long, zone-gap, zone-rest}
+use Rattle.sound.specs.CheckTurns.{zone-empty, zone-astray, zone-lies, zone-gap, zone-rest}
 use borrow.Author.Needs.{needs}
 use Rattle.sound.proofs.zone_fine.Statement.{statement}
 use Rattle.sound.proofs.zone_fine.Tie as tie
@@ -23,40 +23,19 @@ returns c =
     let m = c .before .zone-count in
     zone-empty (a .home .now) (a .area) (a .c) (a .e) (f .result) (m .result) (cells (a .c)) (f .ensures .0) (m .ensures .0) refl (search needs)
 
-returns-2 : tie.Need-returns-2
-returns-2 c =
-    let a = c .before .before .before .before .before .args in
-    let f = c .before .before .before .zone-first in
-    let m = c .before .before .zone-count in
-    zone-early (a .home .now) (a .area) (a .c) (a .e) (f .result) (m .result) (cells (a .c)) (f .ensures .0) (m .ensures .0) refl (c .before .if1 .left) (search needs)
-
 cells-requires : tie.Need-cells-requires
 cells-requires c κs = search needs
 
-add-if3 : tie.Need-add-if3
-add-if3 c = search needs
+lies-requires : tie.Need-lies-requires
+lies-requires c κs = search needs
 
-returns-3 : tie.Need-returns-3
-returns-3 c =
+returns-2 : tie.Need-returns-2
+returns-2 c =
     let a = c .before .before .before .before .before .before .before .args in
     let f = c .before .before .before .before .before .zone-first in
     let m = c .before .before .before .before .zone-count in
-    let s = c .before .cells in
-    zone-late (a .home .now) (a .area) (a .c) (a .e) (f .result) (m .result) (s .result) (f .ensures .0) (m .ensures .0) (s .ensures .0) (c .before .before .before .if1 .left) (search needs) (search needs)
-
-mul-if4 : tie.Need-mul-if4
-mul-if4 c = omega (arith, zone-fits (c .before .before .before .before .zone-count .result) (c .before .cells .result) (search needs) (search needs))
-
-add-if4 : tie.Need-add-if4
-add-if4 c = omega (arith, zone-fits (c .before .before .before .before .zone-count .result) (c .before .cells .result) (search needs) (search needs))
-
-returns-4 : tie.Need-returns-4
-returns-4 c =
-    let a = c .before .before .before .before .before .before .before .before .args in
-    let f = c .before .before .before .before .before .before .zone-first in
-    let m = c .before .before .before .before .before .zone-count in
     let s = c .before .before .cells in
-    zone-long (a .home .now) (a .area) (a .c) (a .e) (f .result) (m .result) (s .result) (f .ensures .0) (m .ensures .0) (s .ensures .0) (c .before .before .before .before .if1 .left) (search needs) (search needs) (search needs)
+    zone-astray (a .home .now) (a .area) (a .c) (a .e) (f .result) (m .result) (s .result) (f .ensures .0) (m .ensures .0) (s .ensures .0) (c .before .before .before .if1 .left) (sym (c .before .lies .ensures) ∙ not-true _ (c .if2 .taken))
 
 mul-zeros : tie.Need-mul-zeros
 mul-zeros c = search needs
@@ -64,33 +43,54 @@ mul-zeros c = search needs
 add-zeros : tie.Need-add-zeros
 add-zeros c = search needs
 
+sub-zeros : tie.Need-sub-zeros
+sub-zeros c =
+    let a = c .before .before .before .before .before .before .before .args in
+    let f = c .before .before .before .before .before .zone-first in
+    let m = c .before .before .before .before .zone-count in
+    let s = c .before .before .cells in
+    let w = zone-lies (a .area) (a .e) (s .result) (f .result) (m .result) (sym (c .before .lies .ensures) ∙ not-false _ (c .if2 .left)) in
+    w .0
+
 mul-zeros-2 : tie.Need-mul-zeros-2
 mul-zeros-2 c = search needs
 
 zeros-requires : tie.Need-zeros-requires
-zeros-requires c κs = search needs
+zeros-requires c κs =
+    let a = c .before .before .before .before .before .before .before .args in
+    let f = c .before .before .before .before .before .zone-first in
+    let m = c .before .before .before .before .zone-count in
+    let s = c .before .before .cells in
+    let w = zone-lies (a .area) (a .e) (s .result) (f .result) (m .result) (sym (c .before .lies .ensures) ∙ not-false _ (c .if2 .left)) in
+    omega (arith, w .0, w .2)
 
-returns-5 : tie.Need-returns-5
-returns-5 c =
-    let a = c .before .before .before .before .before .before .before .before .before .before .args in
-    let f = c .before .before .before .before .before .before .before .before .zone-first in
-    let m = c .before .before .before .before .before .before .before .zone-count in
+returns-3 : tie.Need-returns-3
+returns-3 c =
+    let a = c .before .before .before .before .before .before .before .before .before .args in
+    let f = c .before .before .before .before .before .before .before .zone-first in
+    let m = c .before .before .before .before .before .before .zone-count in
     let s = c .before .before .before .before .cells in
-    zone-gap (a .home .now) (a .area) (a .c) (a .e) (f .result) (m .result) (s .result) (f .ensures .0) (m .ensures .0) (s .ensures .0) (c .before .before .before .before .before .before .if1 .left) (search needs) (search needs) (search needs) (sym (c .before .zeros .ensures) ∙ not-true _ (c .if5 .taken))
+    let w = zone-lies (a .area) (a .e) (s .result) (f .result) (m .result) (sym (c .before .before .before .lies .ensures) ∙ not-false _ (c .before .before .if2 .left)) in
+    zone-gap (a .home .now) (a .area) (a .c) (a .e) (f .result) (m .result) (s .result) (f .ensures .0) (m .ensures .0) (s .ensures .0) (c .before .before .before .before .before .if1 .left) (w .0) (w .1) (w .2) (sym (c .before .zeros .ensures) ∙ not-true _ (c .if3 .taken))
 
 blocks-fine-requires : tie.Need-blocks-fine-requires
 blocks-fine-requires c κs =
+    let a = c .before .before .before .before .before .before .before .before .before .args in
+    let f = c .before .before .before .before .before .before .before .zone-first in
+    let m = c .before .before .before .before .before .before .zone-count in
     let s = c .before .before .before .before .cells in
-    let b : cellAt (c .before .before .before .before .before .before .before .before .zone-first .result + c .before .before .before .before .before .before .before .zone-count .result * s .result) ≤ length (c .before .before .before .before .before .before .before .before .before .before .args .home .now) = omega arith in
-    (c .before .before .before .before .before .before .before .before .before .before .pre .0, rw (s .ensures .0) at b)
+    let w = zone-lies (a .area) (a .e) (s .result) (f .result) (m .result) (sym (c .before .before .before .lies .ensures) ∙ not-false _ (c .before .before .if2 .left)) in
+    let b : cellAt (f .result + m .result * s .result) ≤ length (a .home .now) = omega (arith, w .2) in
+    (c .before .before .before .before .before .before .before .before .before .pre .0, rw (s .ensures .0) at b)
 
-returns-6 : tie.Need-returns-6
-returns-6 c =
-    let a = c .before .before .before .before .before .before .before .before .before .before .before .args in
-    let f = c .before .before .before .before .before .before .before .before .before .zone-first in
-    let m = c .before .before .before .before .before .before .before .before .zone-count in
+returns-4 : tie.Need-returns-4
+returns-4 c =
+    let a = c .before .before .before .before .before .before .before .before .before .before .args in
+    let f = c .before .before .before .before .before .before .before .before .zone-first in
+    let m = c .before .before .before .before .before .before .before .zone-count in
     let s = c .before .before .before .before .before .cells in
-    c .blocks-fine .ensures ∙ zone-rest (a .home .now) (a .area) (a .c) (a .e) (f .result) (m .result) (s .result) (f .ensures .0) (m .ensures .0) (s .ensures .0) (c .before .before .before .before .before .before .before .if1 .left) (search needs) (search needs) (search needs) (sym (c .before .before .zeros .ensures) ∙ not-false _ (c .before .if5 .left))
+    let w = zone-lies (a .area) (a .e) (s .result) (f .result) (m .result) (sym (c .before .before .before .before .lies .ensures) ∙ not-false _ (c .before .before .before .if2 .left)) in
+    c .blocks-fine .ensures ∙ zone-rest (a .home .now) (a .area) (a .c) (a .e) (f .result) (m .result) (s .result) (f .ensures .0) (m .ensures .0) (s .ensures .0) (c .before .before .before .before .before .before .if1 .left) (w .0) (w .1) (w .2) (sym (c .before .before .zeros .ensures) ∙ not-false _ (c .before .if3 .left))
 
 pub zone-fine-spec : {M : Type 1} → statement M
 zone-fine-spec =
@@ -99,17 +99,14 @@ zone-fine-spec =
     zone-first-requires
     zone-count-requires
     returns
-    returns-2
     cells-requires
-    add-if3
-    returns-3
-    mul-if4
-    add-if4
-    returns-4
+    lies-requires
+    returns-2
     mul-zeros
     add-zeros
+    sub-zeros
     mul-zeros-2
     zeros-requires
-    returns-5
+    returns-3
     blocks-fine-requires
-    returns-6)
+    returns-4)

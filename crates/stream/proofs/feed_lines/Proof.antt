@@ -5,7 +5,7 @@ use lib.ListN.{length, take}
 use borrow.Author.Needs.{needs}
 use Rattle.stream.specs.Stream.{state}
 use Rattle.stream.specs.Turns.{feeds-start, feeds-turn}
-use Rattle.stream.specs.Finish.{Feeds}
+use Rattle.stream.specs.Feeds.{Feeds}
 use Rattle.stream.proofs.feed_lines.Statement.{statement}
 use Rattle.stream.proofs.feed_lines.Tie as tie
 

@@ -1,12 +1,12 @@
 use mathlib.Core.Path.{_≡_, refl}
 use native.Mathlib.Omega.{arith}
 use Prim.Native.Nat.{_+_, _*_, _-_, _≤_}
-use native.Mathlib.Nat.{sub-zero}
+use native.Mathlib.Nat.{sub-zero, lt-of-le-of-lt}
 use lib.ListN.{length}
 use Rattle.wire.specs.All.{All, all-head, all-tail}
 use Rattle.redo.specs.Entry.{entries, replay}
 use Rattle.redo.specs.EntryLaws.{entries-none, entries-first}
-use Rattle.redo.specs.Stage.{stage-none, stage-next, Makes}
+use Rattle.redo.specs.Stage.{stage-none, stage-next, Makes, makes-within}
 use Rattle.redo.specs.Turns.{replayed-entry, replayed-more}
 use borrow.Author.Needs.{needs}
 use Rattle.redo.proofs.entry.replay.Statement.{statement}
@@ -34,7 +34,11 @@ replay-one-requires c κs =
     (omega arith, rw same (omega (arith, first)))
 
 add-made : tie.Need-add-made Inv-loop μ-loop
-add-made c = search needs
+add-made c =
+    let s = c .before .before .before .before .before .before .before in
+    let within : c .before .before .before .before .before .loop .made + c .before .before .replay-one .result ≤ s .args .left = omega (arith, makes-within (c .before .before .before .before .before .loop .inv .3), makes-within (c .before .before .replay-one .ensures)) in
+    let fits = lt-of-le-of-lt within (s .fits .left .fits) in
+    search needs
 
 add-j : tie.Need-add-j Inv-loop μ-loop
 add-j c = search needs

@@ -1,4 +1,4 @@
--- `log::stages::commit` meets its contract: a walk of its MIR, by hand. The meter is a local that is lent to the first stage and then to the second, and the image is lent again to each; both come back from each (`Lent.antt`).
+-- `redo::stages::commit` meets its contract: a walk of its MIR, by hand. The meter is a local that is lent to the first stage and then to the second, and the image is lent again to each; both come back from each (`Lent.antt`).
 -- What the first stage left decides what the second may read: `commit-replays`. Both together are the commit's stores: `commit-stages`.
 -- Assumes nothing.
 use mathlib.Core.Path.{_≡_, refl, _∙_}

@@ -1,4 +1,4 @@
--- `log::stages::log_stage` meets its contract: a walk of its MIR, by hand. The lent meter is opened and read, `entry::write_log` is told the stores left and answers those made, and the meter is shut at the numbers so charged.
+-- `redo::stages::log_stage` meets its contract: a walk of its MIR, by hand. The lent meter is opened and read, `entry::write_log` is told the stores left and answers those made, and the meter is shut at the numbers so charged.
 -- The image's borrow is given to the callee for good, at its own lifetime, share and name, and the workspace's too.
 -- Assumes nothing.
 use mathlib.Core.Path.{_≡_, refl, ap}

@@ -1,4 +1,4 @@
--- `log::stages::recover` meets its contract: a walk of its MIR, by hand. The meter is a local that is lent to the stage, and the image is lent again; both come back (`Lent.antt`).
+-- `redo::stages::recover` meets its contract: a walk of its MIR, by hand. The meter is a local that is lent to the stage, and the image is lent again; both come back (`Lent.antt`).
 -- Assumes nothing.
 use mathlib.Core.Path.{_≡_, refl}
 use Prim.Native.Nat.{ℕ, _<_, _^_, _+_}

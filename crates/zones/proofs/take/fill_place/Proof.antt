@@ -6,7 +6,7 @@ use Rattle.zones.proofs.take.fill_place.Statement.{statement}
 use Rattle.zones.proofs.take.fill_place.Tie as tie
 
 move-block-requires : tie.Need-move-block-requires
-move-block-requires c κs = ((c .before .before .before .pre .0 .0, c .before .before .before .pre .0 .2, c .before .before .before .pre .0 .1), c .before .before .before .pre .1 (c .before .if1 .taken))
+move-block-requires c κs = ((c .before .before .before .pre .0 .0, c .before .before .before .pre .0 .2, omega arith), c .before .before .before .pre .1 (c .before .if1 .taken))
 
 mul-fill : tie.Need-mul-fill
 mul-fill c = search needs
