@@ -1,3 +1,4 @@
+use native.Mathlib.Omega.{arith}
 use mathlib.Core.Path.{sym, ap, _∙_}
 use Rattle.records.specs.Records.{place as placeOf}
 use Rattle.lists.specs.ListedLaws.{listed-inside, listed-rising, listed-records, listed-some}
@@ -18,7 +19,7 @@ remove-record-requires c κs =
     record { listed = c .before .before .before .before .before .before .before .pre; key = c .before .before .before .before .before .before .before .args .key; held = f .0; rank = f .1 }
 
 sub-t14 : tie.Need-sub-t14
-sub-t14 c = listed-some _ _ _ _ (c .before .before .before .before .before .before .before .before .before .before .pre)
+sub-t14 c = omega (arith, listed-some _ _ _ _ (c .before .before .before .before .before .before .before .before .before .before .pre))
 
 enum-told : tie.Need-enum-told
 enum-told c = search needs
