@@ -5,7 +5,7 @@ use mathlib.Core.List.{List, [], _∷_, _++_, append-nil}
 use Prim.Native.Nat.{ℕ, _+_, _-_, _≤_, _<_}
 use native.Mathlib.Omega.{arith}
 use native.Mathlib.Nat.{sub-zero}
-use lib.Dec.{leb, eqb}
+use lib.Dec.{leb}
 use lib.ListN.{length, take, drop, length-append, length-drop}
 use lib.Seq.{take-all, take-add, take-append-add, take-append-le, take-append-seam, length-take-le}
 use borrow.Author.Tests.{eq-eqb, ne-eqb, le-leb}
@@ -13,7 +13,7 @@ use Rattle.wire.specs.Cases.{by-lt, never}
 use Rattle.parse.specs.Grammar.{parsed}
 use Rattle.lines.specs.Answer.{lineText}
 use Rattle.stream.specs.declared.Fed.{Fed}
-use Rattle.stream.specs.Stream.{Open, state, linesOf, answers, answered, next, reply, after, said, ending, ended}
+use Rattle.stream.specs.Stream.{Open, state, linesOf, answered, reply, after, said, ending, ended}
 use Rattle.stream.specs.StreamLaws.{after-append, said-append}
 use Rattle.stream.specs.Turns.{parts}
 use Rattle.stream.specs.Feeds.{Feeds}

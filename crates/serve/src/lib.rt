@@ -1,6 +1,5 @@
 // An index served: lines from standard input, their answers to standard output.
-ghost use mathlib.Core.List.{[]};
-ghost use Prim.Native.Nat.{_*_, _≤_, _<_};
+ghost use Prim.Native.Nat.{_≤_, _<_};
 ghost use lib.ListN.{length, take};
 ghost use Rattle.stream.specs.Stream.{state};
 ghost use Rattle.serve.specs.Served.{Passes, Serves, Ends};

@@ -66,11 +66,7 @@ add-from c =
     omega (arith, u .1)
 
 add-sent : tie.Need-add-sent Inv-loop μ-loop
-add-sent c =
-    let i = c .before .before .before .before .before .before .before .before .before .before .before .before .before .before .before .before .before .before .loop .inv in
-    let f = c .before .before .before .before .before .before .before .before .before .before .before .feed .ensures in
-    let h = f .1 (i .2, omega arith) in
-    omega arith
+add-sent c = search needs
 
 loop-less : tie.Need-loop-less Inv-loop μ-loop
 loop-less c =
