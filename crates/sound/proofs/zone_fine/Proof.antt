@@ -50,7 +50,7 @@ sub-zeros c =
     let m = c .before .before .before .before .zone-count in
     let s = c .before .before .cells in
     let w = zone-lies (a .area) (a .e) (s .result) (f .result) (m .result) (sym (c .before .lies .ensures) ∙ not-false _ (c .if2 .left)) in
-    w .0
+    omega (arith, w .0)
 
 mul-zeros-2 : tie.Need-mul-zeros-2
 mul-zeros-2 c = search needs
