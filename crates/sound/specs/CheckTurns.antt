@@ -18,7 +18,7 @@ use Rattle.home.specs.Capacities.{capacity, under, cells, classOf}
 use Rattle.home.specs.CapacitiesLaws.{cells-is, cells-pos, cells-most, class-below, class-holds, class-over, class-within}
 use Rattle.home.specs.Bytes.{cellAt, countAt, firstAt, manyAt, tagAt, placeAt}
 use Rattle.home.specs.Sound.{pagesOf, sized}
-use Rattle.sound.specs.Checks.{blockFine, blocksFine, zoneFine, endAt, zonesFine, manyIn, leads, tagsFine, checked}
+use Rattle.sound.specs.Checks.{blockFine, blocksFine, lies, zoneFine, endAt, zonesFine, manyIn, leads, tagsFine, checked}
 
 -- ---- parts
 
@@ -127,7 +127,7 @@ and-stops true false c d t = refl
 and-stops false b c d t = refl
 
 -- where a zone lies that is not astray
-pub zone-lies : (area e s f m : ℕ) → leb e f && (ltb f (e + s) && leb (f + m * s) area) ≡ true → (e ≤ f) × (f < e + s) × (f + m * s ≤ area)
+pub zone-lies : (area e s f m : ℕ) → lies area e s f m ≡ true → (e ≤ f) × (f < e + s) × (f + m * s ≤ area)
 zone-lies area e s f m t =
     let a = both (leb e f) (ltb f (e + s) && leb (f + m * s) area) t in
     let b = both (ltb f (e + s)) (leb (f + m * s) area) (a .1) in
@@ -143,7 +143,7 @@ module _ (h : List ℕ) (area c e f m s : ℕ) (ef : f ≡ firstAt h c) (em : m 
   zone-empty q = rw (← ef, ← em, eq-eqb m 0 q)
 
   -- where it lies
-  pub zone-astray : (m ≡ 0 → ⊥) → leb e f && (ltb f (e + s) && leb (f + m * s) area) ≡ false → false ≡ zoneFine h area c e
+  pub zone-astray : (m ≡ 0 → ⊥) → lies area e s f m ≡ false → false ≡ zoneFine h area c e
   unfolding zoneFine
   zone-astray q t =
       rw (← ef, ← em, ← es, ne-eqb m 0 q)

@@ -21,6 +21,10 @@ unfoldable pub blocksFine : List ℕ → ℕ → ℕ → ℕ → Bool
 blocksFine h c p zero = true
 blocksFine h c p (suc n) = blockFine h c p && blocksFine h c (p + cells c) n
 
+-- m blocks of s cells from cell f on, where the lower zones end at e: conditions 9 and 10
+abbrev pub lies : ℕ → ℕ → ℕ → ℕ → ℕ → Bool
+lies area e s f m = leb e f && (ltb f (e + s) && leb (f + m * s) area)
+
 -- zone c, where the lower zones end at e, in an area of so many cells: conditions 3, 9, 10 and 16
 unfoldable pub zoneFine : List ℕ → ℕ → ℕ → ℕ → Bool
 zoneFine h area c e =

@@ -9,13 +9,13 @@ ghost use mathlib.Core.Path.{_≡_};
 ghost use mathlib.Core.Bool.{true, _&&_};
 ghost use Prim.Native.Nat.{_+_, _*_, _^_, _≤_, _<_};
 ghost use lib.ListN.{length};
-ghost use lib.Dec.{leb, ltb, eqb};
+ghost use lib.Dec.{eqb};
 ghost use Rattle.wire.specs.Bytes.{part, blank, get16};
 ghost use Rattle.records.specs.Records.{rising as ordered, records};
 ghost use Rattle.home.specs.Capacities.{capacity as capacityOf, under as underOf, cells as cellsOf, short};
 ghost use Rattle.home.specs.Bytes.{cellAt, tagAt};
 ghost use Rattle.home.specs.Sound.{sized as sizedOf, sound as isSound};
-ghost use Rattle.sound.specs.Checks.{blockFine, blocksFine, zoneFine, endAt, zonesFine, manyIn, tagsFine};
+ghost use Rattle.sound.specs.Checks.{blockFine, blocksFine, lies as liesIn, zoneFine, endAt, zonesFine, manyIn, tagsFine};
 ghost use Rattle.sound.specs.CheckTurns.{leadsAt, entryFine};
 
 // Whether n bytes from an offset on are zero.
@@ -93,7 +93,7 @@ fn blocks_fine(home: &[u8], c: usize, p: usize, n: usize) -> bool
 // than a block, and inside the area.
 fn lies(first: usize, many: usize, size: usize, e: usize, area: usize) -> bool
     requires { ⌜ (first < 65536) × (many < 65536) × (size ≤ 990) × (e + size < 2 ^ 64) ⌝ }
-    ensures { λ r. ⌜ r ≡ leb e first && (ltb first (e + size) && leb (first + many * size) area) ⌝ }
+    ensures { λ r. ⌜ r ≡ liesIn area e size first many ⌝ }
 {
     (e <= first) & ((first < e + size) & (first + many * size <= area))
 }

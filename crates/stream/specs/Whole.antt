@@ -31,64 +31,58 @@ behind-onto (x ∷ k) b [] = refl
 behind-onto k b (x ∷ xs) = ap (λ (l : List ℕ). l ∷ xs) (sym (append-assoc k (b ∷ []) x))
 
 -- the line k is answered, then the others
-first-line : (k l w : List ℕ) (xs : List (List ℕ)) → lineText (parsed k) l w ++ answers xs (lineImage (parsed k) l w) (lineSpace (parsed k) l w) ≡ answers (behind k ([] ∷ xs)) l w
-unfolding answers behind
-first-line k l w xs = rw (append-nil k) refl
+first-line : (k l w : List ℕ) (xs : List (List ℕ))
+    → (lineText (parsed k) l w ++ answers xs (lineImage (parsed k) l w) (lineSpace (parsed k) l w) ≡ answers (behind k ([] ∷ xs)) l w)
+    × (answered xs (lineImage (parsed k) l w) (lineSpace (parsed k) l w) ≡ answered (behind k ([] ∷ xs)) l w)
+unfolding answers answered behind
+first-line k l w xs = rw (append-nil k) (refl, refl)
 
 -- at the input's end
-ends : (k l w : List ℕ) → ending (state (clip k) l w) ≡ answers (behind k []) l w
-unfolding ending answers behind clip
-ends [] l w = refl
+ends : (k l w : List ℕ) → (ending (state (clip k) l w) ≡ answers (behind k []) l w) × (ended (state (clip k) l w) ≡ answered (behind k []) l w)
+unfolding ending ended answers answered behind clip
+ends [] l w = (refl, refl)
 ends (b ∷ k) l w =
-    rw (ne-eqb (length (clip (b ∷ k))) 0 (λ q. absurd (omega (arith, q))))
-    (ap (λ (x : Parsed). lineText x l w) (parsed-clip (b ∷ k)) ∙ sym (append-nil (lineText (parsed (b ∷ k)) l w)))
+    rw (ne-eqb (length (clip (b ∷ k))) 0 (λ q. absurd (omega (arith, q)))) (
+      ap (λ (x : Parsed). lineText x l w) (parsed-clip (b ∷ k)) ∙ sym (append-nil (lineText (parsed (b ∷ k)) l w)),
+      next-closed (b ∷ k) l w 10 refl,
+    )
 
--- an open line k and the bytes behind it
-pub rest-answered : (k l w bs : List ℕ) → said (state (clip k) l w) bs ++ ending (after (state (clip k) l w) bs) ≡ answers (behind k (linesOf bs)) l w
+-- an open line k and the bytes behind it: what is answered, and what is left
+rest-lines : (k l w bs : List ℕ)
+    → (said (state (clip k) l w) bs ++ ending (after (state (clip k) l w) bs) ≡ answers (behind k (linesOf bs)) l w)
+    × (ended (after (state (clip k) l w) bs) ≡ answered (behind k (linesOf bs)) l w)
 unfolding said after linesOf clip
-rest-answered k l w [] = ends k l w
-rest-answered k l w (b ∷ bs) =
+rest-lines k l w [] = ends k l w
+rest-lines k l w (b ∷ bs) =
     by-test (eqb b 10)
-    (λ e. rw (e, next-closed k l w b e, next-reply k l w b e)
-    (append-assoc (lineText (parsed k) l w) (said (closed k l w) bs) (ending (after (closed k l w) bs))
-    ∙ ap (λ (t : List ℕ). lineText (parsed k) l w ++ t) (rest-answered [] (lineImage (parsed k) l w) (lineSpace (parsed k) l w) bs ∙ ap (λ (xs : List (List ℕ)). answers xs (lineImage (parsed k) l w) (lineSpace (parsed k) l w)) (behind-none (linesOf bs)))
-    ∙ first-line k l w (linesOf bs)))
-    (λ e. rw (e, next-none (state (clip k) l w) b e, next-kept k l w b e)
-    (rest-answered (k ++ (b ∷ [])) l w bs ∙ ap (λ (xs : List (List ℕ)). answers xs l w) (sym (behind-onto k b (linesOf bs)))))
-
--- what they leave
-ends-left : (k l w : List ℕ) → ended (state (clip k) l w) ≡ answered (behind k []) l w
-unfolding ended answered behind clip
-ends-left [] l w = refl
-ends-left (b ∷ k) l w =
-    rw (ne-eqb (length (clip (b ∷ k))) 0 (λ q. absurd (omega (arith, q)))) (next-closed (b ∷ k) l w 10 refl)
-
-first-left : (k l w : List ℕ) (xs : List (List ℕ)) → answered xs (lineImage (parsed k) l w) (lineSpace (parsed k) l w) ≡ answered (behind k ([] ∷ xs)) l w
-unfolding answered behind
-first-left k l w xs = rw (append-nil k) refl
-
-rest-left : (k l w bs : List ℕ) → ended (after (state (clip k) l w) bs) ≡ answered (behind k (linesOf bs)) l w
-unfolding after linesOf clip
-rest-left k l w [] = ends-left k l w
-rest-left k l w (b ∷ bs) =
-    by-test (eqb b 10)
-    (λ e. rw (e, next-closed k l w b e)
-    (rest-left [] (lineImage (parsed k) l w) (lineSpace (parsed k) l w) bs ∙ ap (λ (xs : List (List ℕ)). answered xs (lineImage (parsed k) l w) (lineSpace (parsed k) l w)) (behind-none (linesOf bs))
-    ∙ first-left k l w (linesOf bs)))
-    (λ e. rw (e, next-kept k l w b e)
-    (rest-left (k ++ (b ∷ [])) l w bs ∙ ap (λ (xs : List (List ℕ)). answered xs l w) (sym (behind-onto k b (linesOf bs)))))
+    (λ e.
+    let l' : List ℕ = lineImage (parsed k) l w in
+    let w' : List ℕ = lineSpace (parsed k) l w in
+    let i = rest-lines [] l' w' bs in
+    let n = behind-none (linesOf bs) in
+    let f = first-line k l w (linesOf bs) in
+    rw (e, next-closed k l w b e, next-reply k l w b e) (
+      append-assoc (lineText (parsed k) l w) (said (closed k l w) bs) (ending (after (closed k l w) bs))
+          ∙ ap (λ (t : List ℕ). lineText (parsed k) l w ++ t) (i .0 ∙ ap (λ (xs : List (List ℕ)). answers xs l' w') n) ∙ f .0,
+      i .1 ∙ ap (λ (xs : List (List ℕ)). answered xs l' w') n ∙ f .1,
+    ))
+    (λ e.
+    let i = rest-lines (k ++ (b ∷ [])) l w bs in
+    let n = sym (behind-onto k b (linesOf bs)) in
+    rw (e, next-none (state (clip k) l w) b e, next-kept k l w b e)
+    (i .0 ∙ ap (λ (xs : List (List ℕ)). answers xs l w) n, i .1 ∙ ap (λ (xs : List (List ℕ)). answered xs l w) n))
 
 -- ---- a whole input
 
 -- "A line ends at a newline byte, not counted, or at the input's end": what is answered is the answers to the input's lines
 pub input-answered : (l w bs : List ℕ) → said (state [] l w) bs ++ ending (after (state [] l w) bs) ≡ answers (linesOf bs) l w
 unfolding clip
-input-answered l w bs = rest-answered [] l w bs ∙ ap (λ (xs : List (List ℕ)). answers xs l w) (behind-none (linesOf bs))
+input-answered l w bs = rest-lines [] l w bs .0 ∙ ap (λ (xs : List (List ℕ)). answers xs l w) (behind-none (linesOf bs))
 
 -- and what is left is what they leave
 pub input-left : (l w bs : List ℕ) → ended (after (state [] l w) bs) ≡ answered (linesOf bs) l w
 unfolding clip
-input-left l w bs = rest-left [] l w bs ∙ ap (λ (xs : List (List ℕ)). answered xs l w) (behind-none (linesOf bs))
+input-left l w bs = rest-lines [] l w bs .1 ∙ ap (λ (xs : List (List ℕ)). answered xs l w) (behind-none (linesOf bs))
 
 -- ---- pieces
 
