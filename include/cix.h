@@ -5,6 +5,11 @@
  * workspace of 64 (26 + R) bytes, which the caller lends, and reach the image by a commit. Nothing
  * is kept between calls, nothing is allocated, and only lent bytes are touched.
  *
+ * The power may fail at any store of a commit or a recovery, and in the middle of one: the byte that
+ * was to be stored may then hold any value, while the bytes before it are stored and all others are
+ * as they were. After that, and any number of recoveries that fail likewise, the first recovery that
+ * finishes leaves the index from before the commit or the one that it was to make.
+ *
  * Every slice is a pointer and a length. The bytes may be anything. A null pointer is fine with
  * length 0. A slice must have as many bytes as its length says, and a slice that is written may
  * not overlap another one of the same call.
@@ -32,8 +37,8 @@ enum cix_kind { CIX_DONE = 0, CIX_CUT = 1, CIX_REFUSED = 2 };
 
 enum cix_refusal {
     CIX_BAD_HEAD = 1,        /* the image's head or length is not right */
-    CIX_BAD_MARK = 2,        /* its mark is neither 0 nor 165 */
-    CIX_UNRECOVERED = 3,     /* a commit was cut: recover first */
+    CIX_BAD_MARK = 2,        /* no longer given */
+    CIX_UNRECOVERED = 3,     /* the image's mark is not 0: recover first */
     CIX_BAD_LOG = 4,         /* recover: the log's count or page numbers are not right */
     CIX_UNSOUND_HOME = 5,    /* the image's home is not sound */
     CIX_SPACE_LENGTH = 6,    /* the workspace has the wrong length */
@@ -72,7 +77,7 @@ uint64_t cix_format(uint8_t *image, size_t image_len, uint32_t entries, uint32_t
                     uint32_t stores);
 
 /* Copies the image's index to the workspace, whose old bytes do not matter. Done, 0.
- * Refused: 1, 2, 3, 5, 6. */
+ * Refused: 1, 3, 5, 6. */
 uint64_t cix_begin(const uint8_t *image, size_t image_len, uint8_t *space, size_t space_len);
 
 /* Puts a record to a tag's list in the workspace. Done, with the list's count afterwards.
@@ -95,15 +100,16 @@ uint64_t cix_drop_tag(uint8_t *space, size_t space_len, uint32_t tag);
 
 /* Makes the workspace the image's index, with at most `stores` stores. Done or cut, with the stores
  * made: 130 for each page of 64 bytes that differs and 4 more, or none. The index found afterwards
- * is the old one or the new one, however early it was cut. Refused: 1, 2, 3, 5, 6, 7, 13. */
+ * is the old one or the new one, wherever it was cut. Refused: 1, 3, 5, 6, 7, 13. */
 uint64_t cix_commit(uint8_t *image, size_t image_len, const uint8_t *space, size_t space_len,
                     uint32_t stores);
 
-/* Finishes a commit that was cut, with at most `stores` stores; none where none was cut. Done or
- * cut, with the stores made. It may be cut and called again any number of times. Refused: 1, 2, 4. */
+/* Finishes a commit that was cut after its mark was stored, with at most `stores` stores: 64 for each
+ * page and 1 more. A mark that is neither 0 nor 165 is cleared by one store; mark 0 needs none. Done
+ * or cut, with the stores made. It may be cut and called again any number of times. Refused: 1, 4. */
 uint64_t cix_recover(uint8_t *image, size_t image_len, uint32_t stores);
 
-/* Counts a tag's list; an unknown tag has 0. Done, with the count. Refused: 1, 2, 3, 5. */
+/* Counts a tag's list; an unknown tag has 0. Done, with the count. Refused: 1, 3, 5. */
 uint64_t cix_count_image(const uint8_t *image, size_t image_len, uint32_t tag);
 
 /* The same in a workspace. Refused: 6, 7. */
@@ -117,7 +123,7 @@ uint64_t cix_show_image(const uint8_t *image, size_t image_len, uint32_t tag);
 uint64_t cix_show_space(const uint8_t *space, size_t space_len, uint32_t tag);
 
 /* The calls that both lists have, with the first list's minutes, written to the output. Done, with
- * the number of records; bytes behind them stay. Refused: 1, 2, 3, 5, 15. */
+ * the number of records; bytes behind them stay. Refused: 1, 3, 5, 15. */
 uint64_t cix_both_image(const uint8_t *image, size_t image_len, uint32_t first, uint32_t second,
                         uint8_t *out, size_t out_len);
 

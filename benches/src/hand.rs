@@ -189,15 +189,12 @@ fn head(image: &[u8]) -> Result<usize, u8> {
     if !right || image.len() != 64 + 66 * l + 64 * (26 + r) {
         return Err(1);
     }
-    match image[10] {
-        0 | 165 => Ok(64 + 66 * l),
-        _ => Err(2),
-    }
+    Ok(64 + 66 * l)
 }
 
 fn open(image: &[u8]) -> Result<usize, u8> {
     let home = head(image)?;
-    if image[10] == 165 {
+    if image[10] != 0 {
         return Err(3);
     }
     if sound(&image[home..]) {
@@ -503,8 +500,14 @@ pub fn commit(image: &mut [u8], space: &[u8], stores: u32) -> Result<(bool, u32)
 
 pub fn recover(image: &mut [u8], stores: u32) -> Result<(bool, u32), u8> {
     let home = head(image)?;
-    if image[10] == 0 {
-        return Ok((true, 0));
+    let mut m = Meter { left: stores as usize, made: 0 };
+    match image[10] {
+        0 => return Ok((true, 0)),
+        165 => {}
+        _ => {
+            m.store(image, 10, &[0]);
+            return Ok((m.made == 1, m.made as u32));
+        }
     }
     let (k, pages) = (two(image, 8), (image.len() - home) / 64);
     if k == 0 || k > (home - 64) / 66 {
@@ -518,7 +521,6 @@ pub fn recover(image: &mut [u8], stores: u32) -> Result<(bool, u32), u8> {
         }
         low = p + 1;
     }
-    let mut m = Meter { left: stores as usize, made: 0 };
     m.replay(image, k, home);
     Ok((m.made == 64 * k + 1, m.made as u32))
 }

@@ -159,7 +159,7 @@ pub extern "C" fn cix_commit(image: &mut [u8], space: &[u8], stores: u32) -> u64
     of_outcome(o)
 }
 
-// Finishes a commit that was cut after its mark was stored.
+// Finishes a commit that was cut after its mark was stored, or clears a spoiled mark.
 #[no_mangle]
 pub extern "C" fn cix_recover(image: &mut [u8], stores: u32) -> u64
     ensures { λ r. ⌜ r ≡ ofOutcome (answer (recoverPlan (now (image .entry))) stores) ⌝ }

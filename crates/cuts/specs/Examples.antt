@@ -61,17 +61,21 @@ examples :
     × (answer (recoverPlan (left 69)) 65 ≡ Done 65)
     × (answer (recoverPlan (left 69)) 64 ≡ Cut 64)
     × (answer (recoverPlan (set image 9 9)) 0 ≡ Done 0)
-    -- refusals of commit: 1, 2, 3, 5, 6, 7, 13
+    -- refusals of commit: 1, 3 for mark 165 and for any other, 5, 6, 7, 13
     × (answer (commitPlan anyBytes [] one) 9 ≡ Refused 1)
-    × (answer (commitPlan anyBytes (set image 10 7) one) 9 ≡ Refused 2)
+    × (answer (commitPlan anyBytes (set image 10 7) one) 9 ≡ Refused 3)
     × (answer (commitPlan anyBytes (left 69) one) 9 ≡ Refused 3)
     × (answer (commitPlan (λ x. equal x one) image one) 9 ≡ Refused 5)
     × (answer (commitPlan anyBytes image (drop 1 two)) 9 ≡ Refused 6)
     × (answer (commitPlan (λ x. blank x) image two) 9 ≡ Refused 7)
     × (answer (commitPlan anyBytes image two) 9 ≡ Refused 13)
-    -- of recover: 1, 2, 4 for no entry, too many, a page out of range
+    -- a mark that is neither: one store, whatever count and log hold
+    × (answer (recoverPlan (set image 10 7)) 9 ≡ Done 1)
+    × (answer (recoverPlan (set image 10 7)) 0 ≡ Cut 0)
+    × (mark (mended (set image 10 7)) ≡ 0)
+    × (equal (mended (set (left 69) 10 7)) (set (left 69) 10 0) ≡ true)
+    -- refusals of recover: 1, 4 for no entry, too many, a page out of range
     × (answer (recoverPlan []) 9 ≡ Refused 1)
-    × (answer (recoverPlan (set image 10 7)) 9 ≡ Refused 2)
     × (answer (recoverPlan (set image 10 165)) 9 ≡ Refused 4)
     × (answer (recoverPlan (set (left 69) 9 2)) 9 ≡ Refused 4)
     × (answer (recoverPlan (set (left 69) 65 27)) 9 ≡ Refused 4)
@@ -81,4 +85,4 @@ examples :
     × (answer (formatPlan soiled 1 1) 1858 ≡ Cut 1858)
     × (answer (formatPlan soiled 1 1) 1859 ≡ Done 1859)
 unfolding committing left mended soiled image one two answer after apply run letters home inRange headOk headOf entry entries rising changes logged replay headPage emptyImage formatStores formatPlan clearMark recoverStores logOk committedPlan recoverPlan logStores commitStores clearPlan commitPlan over equal part get16 bytes16 blank
-examples = (refl, refl, refl, refl, refl, refl, refl, refl, refl, refl, refl, refl, refl, refl, refl, refl, refl, refl, refl, refl, refl, refl, refl, refl, refl, refl, refl, refl, refl, refl, refl, refl)
+examples = (refl, refl, refl, refl, refl, refl, refl, refl, refl, refl, refl, refl, refl, refl, refl, refl, refl, refl, refl, refl, refl, refl, refl, refl, refl, refl, refl, refl, refl, refl, refl, refl, refl, refl, refl)

@@ -1,6 +1,8 @@
-// Cuts a commit of three changed pages at every number of stores from 0 to 395, and after each cut a
-// recovery at every number of stores. A recovery that finishes then finds the old home or the new one:
-// the program counts the cuts that ended with each, and those after which another home was seen.
+// Cuts a commit of three changed pages at every store, and each recovery of what it left. The byte
+// of the store that was cut then holds 0, 165, what stood there, what was meant, or 9. After each a
+// recovery finishes: the program counts how often that finds the old home, the new one, and anything
+// else, by how far the commit had come with its mark. Then it tries all 256 values at each of the
+// four stores to the mark.
 use log::Outcome;
 ghost use Prim.Native.Nat.{_<_};
 
@@ -12,16 +14,14 @@ fn is_done(o: Outcome) -> bool {
     }
 }
 
-fn one_if(b: bool) -> usize
-    ensures { λ r. ⌜ r < 2 ⌝ }
-{
-    if b { 1 } else { 0 }
-}
-
 fn load(to: &mut [u8], from: &[u8]) {
     if from.len() <= to.len() {
         wire::copy(to, 0, from);
     }
+}
+
+fn byte(s: &[u8], at: usize) -> u8 {
+    if at < s.len() { s[at] } else { 0 }
 }
 
 fn store(s: &mut [u8], at: usize, b: u8) {
@@ -30,61 +30,206 @@ fn store(s: &mut [u8], at: usize, b: u8) {
     }
 }
 
-// Which home an image holds: 1 the old one, 2 the new one, 0 neither.
-fn which(image: &[u8], old: &[u8], new: &[u8]) -> usize
-    ensures { λ r. ⌜ r < 3 ⌝ }
+// The pages in which the two homes differ.
+fn page(j: usize) -> usize
+    ensures { λ r. ⌜ r < 27 ⌝ }
 {
+    match j {
+        0 => 0,
+        1 => 2,
+        _ => 26,
+    }
+}
+
+// Where the commit's next store goes, n of its 394 made: the log, the count, the mark, home, the mark.
+fn next_store(n: usize) -> usize {
+    if n < 198 {
+        return 64 + n;
+    }
+    if n < 201 {
+        return n - 190;
+    }
+    if n < 393 {
+        let i = n - 201;
+        return 1912 + 64 * page(i / 64) + i % 64;
+    }
+    10
+}
+
+// One of five values for the byte at this offset, which holds one value before its store and another behind it.
+fn value(i: usize, before: u8, behind: u8) -> u8 {
+    match i {
+        0 => 0,
+        1 => 165,
+        2 => before,
+        3 => behind,
+        _ => 9,
+    }
+}
+
+// How often a recovery that finished found the old home, the new one, and anything else.
+struct Ends {
+    old: usize,
+    new: usize,
+    other: usize,
+}
+
+// One more; no count comes near the bound.
+fn more(n: usize) -> usize {
+    if n < 1000000000 { n + 1 } else { n }
+}
+
+fn finish(image: &mut [u8], old: &[u8], new: &[u8], ends: Ends) -> Ends {
+    let done = is_done(log::recover(image, 193));
     let home = log::home(image);
-    if wire::equal(home, old) {
-        return 1;
+    if done && wire::equal(home, old) {
+        return Ends {
+            old: more(ends.old),
+            new: ends.new,
+            other: ends.other,
+        };
     }
-    if wire::equal(home, new) {
-        return 2;
+    if done && wire::equal(home, new) {
+        return Ends {
+            old: ends.old,
+            new: more(ends.new),
+            other: ends.other,
+        };
     }
-    0
-}
-
-// The home that a cut commit leaves, after a recovery cut at m stores and one that finishes.
-fn found(cut: &[u8], m: usize, old: &[u8], new: &[u8]) -> usize
-    ensures { λ r. ⌜ r < 3 ⌝ }
-{
-    let mut image = [0u8; 3704];
-    load(&mut image, cut);
-    log::recover(&mut image, m);
-    let last = log::recover(&mut image, 1000);
-    if is_done(last) {
-        which(&image, old, new)
-    } else {
-        0
+    Ends {
+        old: ends.old,
+        new: ends.new,
+        other: more(ends.other),
     }
 }
 
-// That home, if it is the same for every m from 0 to 193; otherwise 0.
-fn settled(cut: &[u8], old: &[u8], new: &[u8]) -> usize
-    ensures { λ r. ⌜ r < 3 ⌝ }
+// Cuts a recovery at m stores, and catches the byte at this offset.
+fn recovery_cut(image: &[u8], m: usize, at: usize, old: &[u8], new: &[u8], mut ends: Ends) -> Ends
+    requires { ⌜ m < 193 ⌝ }
 {
-    let home = found(cut, 0, old, new);
-    let mut m = 1;
-    while m < 194 {
-        if found(cut, m, old, new) != home {
-            return 0;
-        }
+    let mut before = [0u8; 3704];
+    load(&mut before, image);
+    let mut behind = before;
+    log::recover(&mut before, m);
+    log::recover(&mut behind, m + 1);
+    let mut i = 0;
+    while i < 5 {
+        let mut cut = before;
+        store(&mut cut, at, value(i, byte(&before, at), byte(&behind, at)));
+        ends = finish(&mut cut, old, new, ends);
+        i += 1;
+    }
+    ends
+}
+
+// Cuts a recovery of the three pages at each of its 193 stores.
+fn replay_cuts(image: &[u8], old: &[u8], new: &[u8], mut ends: Ends) -> Ends {
+    let mut m = 0;
+    while m < 193 {
+        ends = recovery_cut(image, m, next_store(201 + m), old, new, ends);
         m += 1;
     }
-    home
+    ends
+}
+
+// Cuts each recovery that the image's mark calls for, and lets one finish.
+fn recoveries(image: &mut [u8], old: &[u8], new: &[u8], ends: Ends) -> Ends {
+    let cut = match byte(image, 10) {
+        0 => ends,
+        165 => replay_cuts(image, old, new, ends),
+        _ => recovery_cut(image, 0, 10, old, new, ends),
+    };
+    finish(image, old, new, cut)
 }
 
 // An image whose home is the old one, after a commit of the new one cut at n stores.
-fn cut_at(image: &mut [u8], old: &[u8], new: &[u8], n: usize) -> bool {
+fn commit_cut(image: &mut [u8], old: &[u8], new: &[u8], n: usize) {
     log::format(image, 28, 2, 10000);
     log::commit(image, old, 10000);
-    is_done(log::commit(image, new, n))
+    log::commit(image, new, n);
 }
 
-fn line(word: &[u8], n: usize) {
+// Cuts the commit at n stores, and catches the byte of the next one.
+fn commit_caught(n: usize, old: &[u8], new: &[u8], mut ends: Ends) -> Ends
+    requires { ⌜ n < 394 ⌝ }
+{
+    let mut before = [0u8; 3704];
+    let mut behind = before;
+    commit_cut(&mut before, old, new, n);
+    commit_cut(&mut behind, old, new, n + 1);
+    let at = next_store(n);
+    let mut i = 0;
+    while i < 5 {
+        let mut cut = before;
+        store(&mut cut, at, value(i, byte(&before, at), byte(&behind, at)));
+        ends = recoveries(&mut cut, old, new, ends);
+        i += 1;
+    }
+    ends
+}
+
+fn number(word: &[u8], n: usize) {
     io::write_all(1, word);
     io::print_decimal(1, n as u64);
+}
+
+fn line(word: &[u8], ends: Ends) {
+    io::write_all(1, word);
+    number(b": old ", ends.old);
+    number(b", new ", ends.new);
+    number(b", other ", ends.other);
     io::write_all(1, b"\n");
+}
+
+// All cuts of the commit from one number of stores up to another.
+fn commits(word: &[u8], from: usize, to: usize, old: &[u8], new: &[u8])
+    requires { ⌜ to < 395 ⌝ }
+{
+    let mut ends = Ends {
+        old: 0,
+        new: 0,
+        other: 0,
+    };
+    let mut n = from;
+    while n < to {
+        ends = commit_caught(n, old, new, ends);
+        n += 1;
+    }
+    line(word, ends);
+}
+
+// The commit's two stores to the mark, a recovery's last and the one over a spoiled mark, caught with v.
+fn mark_caught(v: u8, old: &[u8], new: &[u8], ends: Ends) -> Ends {
+    let mut image = [0u8; 3704];
+    commit_cut(&mut image, old, new, 200);
+    store(&mut image, 10, v);
+    let a = recoveries(&mut image, old, new, ends);
+    commit_cut(&mut image, old, new, 393);
+    store(&mut image, 10, v);
+    let b = recoveries(&mut image, old, new, a);
+    commit_cut(&mut image, old, new, 201);
+    log::recover(&mut image, 192);
+    store(&mut image, 10, v);
+    let c = recoveries(&mut image, old, new, b);
+    commit_cut(&mut image, old, new, 200);
+    store(&mut image, 10, 9);
+    log::recover(&mut image, 0);
+    store(&mut image, 10, v);
+    recoveries(&mut image, old, new, c)
+}
+
+fn every_value(old: &[u8], new: &[u8]) {
+    let mut ends = Ends {
+        old: 0,
+        new: 0,
+        other: 0,
+    };
+    let mut v = 0u8;
+    while v < 255 {
+        ends = mark_caught(v, old, new, ends);
+        v += 1;
+    }
+    line(b"any value in the mark", mark_caught(255, old, new, ends));
 }
 
 fn main() {
@@ -95,18 +240,8 @@ fn main() {
     store(&mut new, 63, 1);
     store(&mut new, 128, 255);
     store(&mut new, 1664, 7);
-    let mut counts = [0usize; 3];
-    let mut done: usize = 0;
-    let mut n = 0;
-    while n < 396 {
-        let mut image = [0u8; 3704];
-        done += one_if(cut_at(&mut image, &old, &new, n));
-        let home = settled(&image, &old, &new);
-        counts[home] += 1;
-        n += 1;
-    }
-    line(b"old ", counts[1]);
-    line(b"new ", counts[2]);
-    line(b"other ", counts[0]);
-    line(b"done ", done);
+    commits(b"mark not begun", 0, 200, &old, &new);
+    commits(b"mark caught", 200, 201, &old, &new);
+    commits(b"mark stored", 201, 394, &old, &new);
+    every_value(&old, &new);
 }

@@ -4,7 +4,7 @@ use mathlib.Core.List.{List}
 use Rattle.wire.specs.Bytes.{pick}
 use Rattle.redo.specs.Image.{home}
 use Rattle.log.specs.declared.Head.{Head}
-use Rattle.log.specs.declared.Head.the-variants.{Bad, Clear, Committed}
+use Rattle.log.specs.declared.Head.the-variants.{Bad, Clear, Committed, Spoiled}
 use Rattle.log.specs.Head.{headOf}
 use Rattle.home.specs.Sound.{sized, sound}
 use Rattle.edits.specs.declared.Answer.{Answer}
@@ -12,13 +12,14 @@ use Rattle.edits.specs.declared.Answer.the-variants.{Refused}
 use Rattle.gates.specs.declared.Gate.{Gate}
 use Rattle.gates.specs.declared.Gate.the-variants.{Open, Shut}
 
--- "3: mark 165, in any image call but recover and format"
+-- "3 is given for every mark but 0", in any image call but recover and format
 unfoldable pub byHead : Head → Gate → Gate
-byHead (Bad r) g = Shut r
+byHead Bad g = Shut 1
 byHead Clear g = g
 byHead Committed g = Shut 3
+byHead Spoiled g = Shut 3
 
--- an image lent to begin, commit or a read: 1, 2, 3, then "5: home not sound"
+-- an image lent to begin, commit or a read: 1, 3, then "5: home not sound"
 unfoldable pub imageGate : List ℕ → Gate
 imageGate l = byHead (headOf l) (pick (sound (home l)) Open (Shut 5))
 

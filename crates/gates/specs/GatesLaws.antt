@@ -8,7 +8,7 @@ use Rattle.wire.specs.Bytes.{pick}
 use Rattle.wire.specs.Cases.{by-test}
 use Rattle.redo.specs.Image.{home, headOk}
 use Rattle.log.specs.declared.Head.{Head}
-use Rattle.log.specs.declared.Head.the-variants.{Bad, Clear, Committed}
+use Rattle.log.specs.declared.Head.the-variants.{Bad, Clear, Committed, Spoiled}
 use Rattle.log.specs.Head.{headOf}
 use Rattle.log.specs.Answers.{clear-ok}
 use Rattle.home.specs.Sound.{sized, sound}
@@ -19,13 +19,17 @@ use Rattle.gates.specs.declared.Gate.the-variants.{Open, Shut}
 use Rattle.gates.specs.Gates.{byHead, imageGate, spaceGate, gatedAnswer, gatedBytes}
 
 module _ (l : List ℕ) where
-  pub gate-bad : (r : ℕ) → headOf l ≡ Bad r → Shut r ≡ imageGate l
+  pub gate-bad : headOf l ≡ Bad → Shut 1 ≡ imageGate l
   unfolding imageGate byHead
-  gate-bad r e = rw e
+  gate-bad e = rw e
 
   pub gate-committed : headOf l ≡ Committed → Shut 3 ≡ imageGate l
   unfolding imageGate byHead
   gate-committed e = rw e
+
+  pub gate-spoiled : headOf l ≡ Spoiled → Shut 3 ≡ imageGate l
+  unfolding imageGate byHead
+  gate-spoiled e = rw e
 
   -- home as the log hands it out
   lent : (h : List ℕ) → headOk l ≡ true → h ≡ pick (headOk l) (home l) [] → h ≡ home l
@@ -49,8 +53,9 @@ module _ (l : List ℕ) where
   image-open e = go (headOf l) refl e
     where
       go : (h : Head) → headOf l ≡ h → byHead h (pick (sound (home l)) Open (Shut 5)) ≡ Open → Opened
-      go (Bad r) e f = let z : _≡_ {A = ℕ} 0 1 = cc in absurd (omega arith)
+      go Bad e f = let z : _≡_ {A = ℕ} 0 1 = cc in absurd (omega arith)
       go Committed e f = let z : _≡_ {A = ℕ} 0 1 = cc in absurd (omega arith)
+      go Spoiled e f = let z : _≡_ {A = ℕ} 0 1 = cc in absurd (omega arith)
       go Clear e f = by-test (sound (home l))
           (λ t. record { clear = e; fine = t })
           (λ t. let g = rw t at f in let z : _≡_ {A = ℕ} 0 1 = cc in absurd (omega arith))
@@ -67,9 +72,9 @@ module _ (w : List ℕ) where
   unfolding spaceGate
   gate-space e t = rw (e, t)
 
-  pub gate-spoiled : sized w ≡ true → sound w ≡ false → Shut 7 ≡ spaceGate w
+  pub gate-unsound-space : sized w ≡ true → sound w ≡ false → Shut 7 ≡ spaceGate w
   unfolding spaceGate
-  gate-spoiled e t = rw (e, t)
+  gate-unsound-space e t = rw (e, t)
 
   pub space-open : spaceGate w ≡ Open → sound w ≡ true
   unfolding spaceGate

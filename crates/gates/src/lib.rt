@@ -14,7 +14,7 @@ pub fn image_gate(image: &[u8]) -> Gate
 {
     let head = log::read_head(image);
     match head {
-        Head::Bad(r) => Gate::Shut(r),
+        Head::Bad => Gate::Shut(1),
         Head::Clear => {
             if sound::sound(log::home(image)) {
                 Gate::Open
@@ -23,6 +23,7 @@ pub fn image_gate(image: &[u8]) -> Gate
             }
         }
         Head::Committed => Gate::Shut(3),
+        Head::Spoiled => Gate::Shut(3),
     }
 }
 

@@ -11,7 +11,7 @@ use Rattle.gates.specs.Gates.{imageGate}
 use Rattle.index.specs.declared.Begun.{Begun}
 use Rattle.index.specs.declared.Begun.the-variants.{Done, Unbegun}
 
--- "Begin: copies home to a workspace of the same length": 1, 2, 3, 5, then 6; it doesn't look at the workspace's old bytes
+-- "Begin: copies home to a workspace of the same length": 1, 3, 5, then 6; it doesn't look at the workspace's old bytes
 unfoldable pub begun : Gate → List ℕ → List ℕ → Begun
 begun Open h w = pick (eqb (length w) (length h)) Done (Unbegun 6)
 begun (Shut r) h w = Unbegun r

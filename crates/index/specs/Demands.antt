@@ -1,7 +1,7 @@
 -- Demand 2, over the calls' definitions: what an edit changes and what it leaves, and what a read then finds.
 use mathlib.Core.Path.{_≡_, refl, sym, ap, _∙_, subst}
 use mathlib.Core.Bool.{true}
-use Prim.Native.Nat.{ℕ, zero, suc, _+_, _*_, _≤_, _<_}
+use Prim.Native.Nat.{ℕ, zero, suc, _+_, _≤_, _<_}
 use native.Mathlib.Omega.{arith}
 use mathlib.Core.List.{List, [], _∷_}
 use lib.ListN.{length, getD}
@@ -16,12 +16,12 @@ use Rattle.redo.specs.ImageLaws.{in-range, head-same}
 use Rattle.log.specs.declared.Outcome.the-variants.{Done as Committed}
 use Rattle.log.specs.declared.Head.the-variants.{Clear}
 use Rattle.log.specs.Head.{headOf}
-use Rattle.log.specs.HeadLaws.{head-clear, head-committed, head-other}
+use Rattle.log.specs.HeadLaws.{head-clear, head-committed, head-spoiled}
 use Rattle.log.specs.Calls.{answer, after, commitPlan, formatPlan}
 use Rattle.log.specs.Answers.{clear-ok}
 use Rattle.log.specs.FormatLaws.{format-done, empty-head, empty-mark, empty-home}
-use Rattle.log.specs.Book.{commit, seen, planOf, allowance, final}
-use Rattle.log.specs.Claim.{holds}
+use Rattle.log.specs.Book.{commit, seen, planOf, allowance, value, final}
+use Rattle.log.specs.Claim.{Starts, holds, done-uncaught}
 use Rattle.log.specs.Kept.{completed}
 use Rattle.home.specs.Zones.{blocks, find}
 use Rattle.home.specs.Edits.{Edited}
@@ -112,7 +112,7 @@ clear-mark l e =
     by-eq (mark l) 0 (λ z. z)
     (λ d. by-eq (mark l) 165
     (λ q. let f = sym (head-committed l (clear-ok l e) q) ∙ e in let z : _≡_ {A = ℕ} 0 1 = cc in absurd (omega arith))
-    (λ q. let f = sym (head-other l (clear-ok l e) d q) ∙ e in let z : _≡_ {A = ℕ} 0 1 = cc in absurd (omega arith)))
+    (λ q. let f = sym (head-spoiled l (clear-ok l e) d q) ∙ e in let z : _≡_ {A = ℕ} 0 1 = cc in absurd (omega arith)))
 
 opens : (l : List ℕ) → headOk l ≡ true → mark l ≡ 0 → sound (home l) ≡ true → imageGate l ≡ Open
 unfolding imageGate byHead
@@ -129,7 +129,7 @@ module _ (l w : List ℕ) (n m : ℕ) (done : answer (commitPlan sound l w) n �
     pub fine : sound w ≡ true
 
   pub committed : Read
-  unfolding answer final seen planOf allowance
+  unfolding answer final seen planOf allowance value
   committed = go (imageGate l) refl
     where
       go : (g : Gate) → imageGate l ≡ g → Read
@@ -138,9 +138,10 @@ module _ (l w : List ℕ) (n m : ℕ) (done : answer (commitPlan sound l w) n �
           let o = image-open l q in
           let ok = clear-ok l (o .clear) in
           let unmarked = clear-mark l (o .clear) in
-          let k = completed sound l ok unmarked (o .fine) [] w l refl n m done in
-          let t = holds sound l ok unmarked (o .fine) (commit w n ∷ []) in
-          record { gate = opens l' (head-same (t .head) ∙ ok) (k .1) (rw (k .2) (subst (λ (x : List ℕ). sound x ≡ true) (k .0) (t .fine))); bytes = k .2; fine = subst (λ (x : List ℕ). sound x ≡ true) (k .0) (t .fine) }
+          let s : Starts sound l = record { head = ok; unmarked = unmarked; fine = o .fine } in
+          let k = completed sound l s [] w l refl n 0 m done in
+          let t = rw (done-uncaught (commitPlan sound l w) n m 0 l done) at (holds sound l s (commit w n 0 ∷ [])) in
+          record { gate = opens l' (head-same (t .head) ∙ ok) (k .1) (rw (k .2) (subst (λ (x : List ℕ). sound x ≡ true) (k .0) (t .fits .fine))); bytes = k .2; fine = subst (λ (x : List ℕ). sound x ≡ true) (k .0) (t .fits .fine) }
 
   pub committed-reads : (t : ℕ) → (countImage l' t ≡ countSpace w t) × (showImage l' t ≡ showSpace w t)
   committed-reads t =

@@ -25,9 +25,9 @@ unfoldable pub lowest : {A : Type 0} → (ℕ → A) → List Rule → A → A
 lowest f [] a = a
 lowest f (rule n b ∷ rs) a = pick b (f n) (lowest f rs a)
 
--- "1: .. length below 64, or head .. or length not as above", "2: mark neither 0 nor 165", "3: mark 165, in any image call but recover and format", "5: home not sound"
+-- "1: .. length below 64, or head .. or length not as above", "3 is given for every mark but 0" in any image call but recover and format, "5: home not sound"
 unfoldable pub imageRules : List ℕ → List Rule
-imageRules l = rule 1 (not (headOk l)) ∷ rule 2 (not (eqb (mark l) 0 || eqb (mark l) 165)) ∷ rule 3 (eqb (mark l) 165) ∷ rule 5 (not (sound (home l))) ∷ []
+imageRules l = rule 1 (not (headOk l)) ∷ rule 3 (not (eqb (mark l) 0)) ∷ rule 5 (not (sound (home l))) ∷ []
 
 -- a workspace lent alone: "6: .. is no 64(26 + R)", "7: workspace not sound"
 unfoldable pub spaceRules : List ℕ → List Rule
@@ -45,7 +45,7 @@ commitRules l w = imageRules l ++ rule 6 (not (eqb (length w) (64 * pages l))) �
 
 -- "4: recover, mark 165: entry count 0 or above L, or a page number not below 26 + R or not above the one before"
 unfoldable pub recoverRules : List ℕ → List Rule
-recoverRules l = rule 1 (not (headOk l)) ∷ rule 2 (not (eqb (mark l) 0 || eqb (mark l) 165)) ∷ rule 4 (eqb (mark l) 165 && not (logOk l)) ∷ []
+recoverRules l = rule 1 (not (headOk l)) ∷ rule 4 (eqb (mark l) 165 && not (logOk l)) ∷ []
 
 -- "14: format, L or R out of range or length not matching"
 unfoldable pub formatRules : List ℕ → ℕ → ℕ → List Rule

@@ -14,7 +14,7 @@ use Rattle.records.specs.declared.Record.{Record}
 use Rattle.records.specs.declared.Merge.{Merge}
 use Rattle.records.specs.Records.{key, look, held, insert, remove, amend}
 use Rattle.redo.specs.Image.{capacity, mark, pages, homeAt, home, headOk, inRange, imageLength}
-use Rattle.redo.specs.Stores.{commitStores, recoverStores, formatStores}
+use Rattle.redo.specs.Stores.{clearMark, commitStores, recoverStores, formatStores}
 use Rattle.log.specs.Head.{headOf}
 use Rattle.log.specs.Calls.{refuse, store, clearPlan, commitPlan, changed, committedPlan, recoverPlan, logOf, logOk, formatPlan}
 use Rattle.home.specs.Zones.{Zone, blocks, hasTag, find}
@@ -56,8 +56,7 @@ module _ {A : Type 0} (f : ℕ → A) where
   through-image l rs a b e =
       by-test (headOk l)
       (λ ok. by-test (eqb (mark l) 0)
-      (λ z. let m : eqb (mark l) 165 ≡ false = not-165 (mark l) z in
-      by-test (sound (home l)) (λ s. rw (ok, z, m, s) e) (λ s. rw (ok, z, m, s) refl))
+      (λ z. by-test (sound (home l)) (λ s. rw (ok, z, s) e) (λ s. rw (ok, z, s) refl))
       (λ z. by-test (eqb (mark l) 165) (λ m. rw (ok, z, m) refl) (λ m. rw (ok, z, m) refl)))
       (λ ok. rw ok refl)
 
@@ -199,18 +198,17 @@ unfolding commitPlan clearPlan headOf commitRules imageRules lowest
 commit-lowest l w =
     by-test (headOk l)
     (λ ok. by-test (eqb (mark l) 0)
-    (λ z. let m : eqb (mark l) 165 ≡ false = not-165 (mark l) z in
-    by-test (sound (home l))
+    (λ z. by-test (sound (home l))
     (λ s. by-test (eqb (length w) (64 * pages l))
     (λ e. by-test (sound w)
-    (λ f. by-test (leb (length (changed l w)) (capacity l)) (λ g. rw (ok, z, m, s, e, f, g) refl) (λ g. rw (ok, z, m, s, e, f, g) refl))
-    (λ f. rw (ok, z, m, s, e, f) refl))
-    (λ e. rw (ok, z, m, s, e) refl))
-    (λ s. rw (ok, z, m, s) refl))
+    (λ f. by-test (leb (length (changed l w)) (capacity l)) (λ g. rw (ok, z, s, e, f, g) refl) (λ g. rw (ok, z, s, e, f, g) refl))
+    (λ f. rw (ok, z, s, e, f) refl))
+    (λ e. rw (ok, z, s, e) refl))
+    (λ s. rw (ok, z, s) refl))
     (λ z. by-test (eqb (mark l) 165) (λ m. rw (ok, z, m) refl) (λ m. rw (ok, z, m) refl)))
     (λ ok. rw ok refl)
 
-pub recover-lowest : (l : List ℕ) → recoverPlan l ≡ lowest refuse (recoverRules l) (store (pick (eqb (mark l) 165) (recoverStores (homeAt l) (logOf l)) []))
+pub recover-lowest : (l : List ℕ) → recoverPlan l ≡ lowest refuse (recoverRules l) (store (pick (eqb (mark l) 0) [] (pick (eqb (mark l) 165) (recoverStores (homeAt l) (logOf l)) clearMark)))
 unfolding recoverPlan committedPlan headOf recoverRules lowest
 recover-lowest l =
     by-test (headOk l)

@@ -118,7 +118,7 @@ pub fn commit(image: &mut [u8], space: &[u8], n: usize) -> Outcome
     }
 }
 
-// Finishes a commit that was cut after its mark was stored.
+// Finishes a commit that was cut after its mark was stored, or clears a spoiled mark.
 pub fn recover(image: &mut [u8], n: usize) -> Outcome
     ensures { λ r. ⌜ r ≡ answer (recoverPlan (now (image .entry))) n ⌝ }
     ensures { λ _. ⌜ now (image .exit) ≡ after (recoverPlan (now (image .entry))) n (now (image .entry)) ⌝ }

@@ -19,7 +19,7 @@ use Rattle.redo.specs.StoresLaws.{length-commit}
 use Rattle.log.specs.declared.Outcome.the-variants.{Cut}
 use Rattle.log.specs.Calls.{answer, changed, clearPlan, commitPlan}
 use Rattle.log.specs.Answers.{clear-ok}
-use Rattle.log.specs.Holds.{long-changes}
+use Rattle.log.specs.Logged.{long-changes}
 use Rattle.home.specs.Sound.{sound}
 use Rattle.edits.specs.declared.Answer.{Answer}
 use Rattle.gates.specs.declared.Gate.{Gate}

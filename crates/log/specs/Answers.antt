@@ -17,15 +17,15 @@ use Rattle.redo.specs.Image.{letters, capacity, recordPages, count, pages, home
 use Rattle.redo.specs.ImageLaws.{Right}
 use Rattle.redo.specs.Entry.{entryAt, rising, changes, Loggable}
 use Rattle.redo.specs.EntryLaws.{entries-long, length-entries, rising-below}
-use Rattle.redo.specs.Stores.{formatStores, recoverStores, commitStores}
+use Rattle.redo.specs.Stores.{formatStores, clearMark, recoverStores, commitStores}
 use Rattle.redo.specs.StoresLaws.{length-recover}
-use Rattle.redo.specs.Stage.{Stage, stage-more}
+use Rattle.redo.specs.Stage.{Stage, Makes, stage-more}
 use Rattle.redo.specs.Stages.{commit-needs}
 use Rattle.log.specs.declared.Head.{Head}
-use Rattle.log.specs.declared.Head.the-variants.{Bad, Clear, Committed}
+use Rattle.log.specs.declared.Head.the-variants.{Bad, Clear, Committed, Spoiled}
 use Rattle.log.specs.declared.Outcome.the-variants.{Done, Cut, Refused}
 use Rattle.log.specs.Head.{headOf}
-use Rattle.log.specs.Calls.{Plan, refuse, store, answer, after, atHead, formatPlan, logOf, logOk, changed, committedPlan, clearPlan, anyBytes}
+use Rattle.log.specs.Calls.{Plan, refuse, store, answer, after, formatPlan, logOf, logOk, changed, committedPlan, clearPlan, anyBytes}
 
 -- ---- any call
 
@@ -103,26 +103,26 @@ commit-answer l h w q k fit some s = stage-answer (130 * k + 4) (commit-needs l 
 
 -- ---- the head
 
-pub at-bad : (l : List ℕ) (r : ℕ) (clear committed : Plan) → headOf l ≡ Bad r → atHead (headOf l) clear committed ≡ refuse r
-at-bad l r clear committed e = rw e
-
-pub at-clear : (l : List ℕ) (clear committed : Plan) → headOf l ≡ Clear → atHead (headOf l) clear committed ≡ clear
-at-clear l clear committed e = rw e
-
-pub at-committed : (l : List ℕ) (clear committed : Plan) → headOf l ≡ Committed → atHead (headOf l) clear committed ≡ committed
-at-committed l clear committed e = rw e
+-- the one store over a spoiled mark
+pub cleared-is : {n m' : ℕ} {l l' : List ℕ} → Makes n (run 10 (0 ∷ [])) l m' l'
+    → (pick (leb 1 n) (Done m') (Cut m') ≡ answer (store clearMark) n) × (l' ≡ after (store clearMark) n l)
+unfolding clearMark
+cleared-is s = stage-answer 1 (length-run 10 (0 ∷ [])) s
 
 -- a mark was read, so the head is right
 module _ (l : List ℕ) where
-  known : (h : Head) → headOf l ≡ h → ((r : ℕ) → h ≡ Bad r → ⊥) → headOk l ≡ true
+  known : (h : Head) → headOf l ≡ h → (h ≡ Bad → ⊥) → headOk l ≡ true
   unfolding headOf
-  known h e f = by-test (headOk l) (λ t. t) (λ t. absurd (f 1 (sym e ∙ rw t)))
+  known h e f = by-test (headOk l) (λ t. t) (λ t. absurd (f (sym e ∙ rw t)))
 
   pub clear-ok : headOf l ≡ Clear → headOk l ≡ true
-  clear-ok e = known Clear e (λ r z. let x : _≡_ {A = ℕ} 0 1 = cc in omega arith)
+  clear-ok e = known Clear e (λ z. let x : _≡_ {A = ℕ} 0 1 = cc in omega arith)
 
   pub committed-ok : headOf l ≡ Committed → headOk l ≡ true
-  committed-ok e = known Committed e (λ r z. let x : _≡_ {A = ℕ} 0 1 = cc in omega arith)
+  committed-ok e = known Committed e (λ z. let x : _≡_ {A = ℕ} 0 1 = cc in omega arith)
+
+  pub spoiled-ok : headOf l ≡ Spoiled → headOk l ≡ true
+  spoiled-ok e = known Spoiled e (λ z. let x : _≡_ {A = ℕ} 0 1 = cc in omega arith)
 
 -- ---- format
 

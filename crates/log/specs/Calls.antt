@@ -8,9 +8,9 @@ use Rattle.wire.specs.Bytes.{pick}
 use Rattle.redo.specs.Store.{Store, apply}
 use Rattle.redo.specs.Image.{capacity, count, pages, homeAt, home, inRange, imageLength}
 use Rattle.redo.specs.Entry.{Entry, entries, rising, changes}
-use Rattle.redo.specs.Stores.{formatStores, recoverStores, commitStores}
+use Rattle.redo.specs.Stores.{formatStores, clearMark, recoverStores, commitStores}
 use Rattle.log.specs.declared.Head.{Head}
-use Rattle.log.specs.declared.Head.the-variants.{Bad, Clear, Committed}
+use Rattle.log.specs.declared.Head.the-variants.{Bad, Clear, Committed, Spoiled}
 use Rattle.log.specs.declared.Outcome.{Outcome}
 use Rattle.log.specs.declared.Outcome.the-variants.{Done, Cut, Refused}
 use Rattle.log.specs.Head.{headOf}
@@ -36,11 +36,12 @@ abbrev pub unless : Bool → ℕ → Plan → Plan
 unless true r p = p
 unless false r p = refuse r
 
--- by the head: refused with 1 or 2, or what is to be done with the mark clear and with it set
-abbrev pub atHead : Head → Plan → Plan → Plan
-atHead (Bad r) clear committed = refuse r
-atHead Clear clear committed = clear
-atHead Committed clear committed = committed
+-- by the head: refused with 1, or what is to be done with the mark clear, with it set, and with any other value there
+abbrev pub atHead : Head → Plan → Plan → Plan → Plan
+atHead Bad clear committed spoiled = refuse 1
+atHead Clear clear committed spoiled = clear
+atHead Committed clear committed spoiled = committed
+atHead Spoiled clear committed spoiled = spoiled
 
 -- ---- format
 
@@ -61,8 +62,9 @@ logOk l = leb 1 (count l) && leb (count l) (capacity l) && rising 0 (pages l) (l
 unfoldable pub committedPlan : List ℕ → Plan
 committedPlan l = unless (logOk l) 4 (store (recoverStores (homeAt l) (logOf l)))
 
+-- with a mark that is neither 0 nor 165, the one store of 0 over it is the whole recovery
 unfoldable pub recoverPlan : List ℕ → Plan
-recoverPlan l = atHead (headOf l) (store []) (committedPlan l)
+recoverPlan l = atHead (headOf l) (store []) (committedPlan l) (store clearMark)
 
 -- ---- commit
 
@@ -79,8 +81,9 @@ clearPlan accept l w =
     (unless (leb (length (changed l w)) (capacity l)) 13
     (store (commitStores (homeAt l) (changed l w))))))
 
+-- 3 with every mark but 0
 unfoldable pub commitPlan : (List ℕ → Bool) → List ℕ → List ℕ → Plan
-commitPlan accept l w = atHead (headOf l) (clearPlan accept l w) (refuse 3)
+commitPlan accept l w = atHead (headOf l) (clearPlan accept l w) (refuse 3) (refuse 3)
 
 -- the test of a log that knows pages only
 abbrev pub anyBytes : List ℕ → Bool

@@ -1,129 +1,178 @@
--- The claim in the user's words: which index is found after a cut, and that a completed commit is kept.
+-- The claim in the user's words: which index is found after a switch-off, and that a completed commit is kept.
 use mathlib.Core.Path.{_≡_, refl, sym, ap, _∙_}
-use mathlib.Core.Bool.{Bool, true, false}
-use mathlib.Core.Logic.{_⊎_, inl, inr}
-use Prim.Native.Nat.{ℕ, _+_, _*_, _/_}
+use mathlib.Core.Bool.{Bool, true}
+use mathlib.Core.Logic.{_⊎_, inl, inr, ⊎-elim}
+use Prim.Native.Nat.{ℕ, _+_, _-_, _*_, _/_, _≤_, _<_}
 use native.Mathlib.Omega.{arith}
-use mathlib.Core.List.{List, [], _∷_, _++_, map}
+use mathlib.Core.List.{List, [], _∷_, _++_}
 use lib.ListN.{length}
 use lib.Dec.{leb, eqb}
-use borrow.Author.Tests.{eqb-true, leb-true, le-leb, eq-eqb, ne-eqb}
-use Rattle.wire.specs.Bytes.{pick}
+use borrow.Author.Tests.{eqb-true, leb-true, eq-eqb, ne-eqb}
 use Rattle.wire.specs.Cases.{by-test, by-eq}
-use Rattle.redo.specs.Store.{apply}
+use Rattle.wire.specs.All.{All, none, more}
+use Rattle.redo.specs.Store.{Store, apply}
 use Rattle.redo.specs.StoreLaws.{apply-none}
 use Rattle.redo.specs.Image.{capacity, mark, pages, home, headOk}
+use Rattle.redo.specs.ImageLaws.{head-right, length-home}
 use Rattle.redo.specs.Entry.{Entry, changes, replay}
 use Rattle.redo.specs.EntryLaws.{home-becomes}
 use Rattle.log.specs.declared.Outcome.the-variants.{Done, Cut, Refused}
-use Rattle.log.specs.Calls.{answer, after, recoverPlan, commitPlan}
-use Rattle.log.specs.Book.{Call, commit, recover, allowance, planOf, Seen, seen, told, foretold, final, Book, start, differing, Verdict, refused, writes, judge, commitNeed, markStored, report, answerTo, bookAt, next, bookAfter}
-use Rattle.log.specs.Steps.{Holds, Step, step, some-commit}
-use Rattle.log.specs.Claim.{claim, holds, marks-of, stands-of}
+use Rattle.log.specs.Calls.{refuse, store, answer, after, changed, recoverPlan, clearPlan, commitPlan}
+use Rattle.log.specs.Book.{Call, commit, recover, allowance, value, planOf, Seen, seen, told, foretold, final, Book, start, differing, writes, judgeBy, judge, commitNeed, needBy, recoverNeed, report, answerTo, logs, toldMark, recovering, committing, bookAt, next, bookAfter}
+use Rattle.log.specs.BookLaws.{need-clear, some-commit, recovering-done, committing-early, committing-mark, committing-late, by-recovering}
+use Rattle.log.specs.Holds.{commit-marked, Holds}
+use Rattle.log.specs.Steps.{Step, step, Writing, writing, writes-changed}
+use Rattle.log.specs.Head.{headOf}
+use Rattle.log.specs.Claim.{Starts, Claim, begins, claim, holds, stands-of, done-uncaught}
 
--- ---- lists in two parts
+-- the book after a list of calls that starts on l
+abbrev pub bookOf : (List ℕ → Bool) → List ℕ → List Call → Book
+bookOf accept l cs = bookAfter accept (capacity l) cs (start (home l))
 
-module _ (accept : List ℕ → Bool) where
-  final-append : (cs ds : List Call) (l : List ℕ) → final accept (cs ++ ds) l ≡ final accept ds (final accept cs l)
-  unfolding final
-  final-append [] ds l = refl
-  final-append (c ∷ cs) ds l = final-append cs ds _
+-- the image after one more recovery or commit
+abbrev pub recovered : List ℕ → ℕ → List ℕ
+recovered x n = after (recoverPlan x) n x
 
-  book-append : (L : ℕ) (cs ds : List Call) (b : Book) → bookAfter accept L (cs ++ ds) b ≡ bookAfter accept L ds (bookAfter accept L cs b)
-  unfolding bookAfter
-  book-append L [] ds b = refl
-  book-append L (c ∷ cs) ds b = book-append L cs ds _
+abbrev pub committed : (List ℕ → Bool) → List ℕ → List ℕ → ℕ → List ℕ
+committed accept x w n = after (commitPlan accept x w) n x
 
-  -- recoveries keep what is kept
-  book-recoveries : (L : ℕ) (ns : List ℕ) (b : Book) → bookAfter accept L (map recover ns) b .kept ≡ b .kept
-  unfolding bookAfter next
-  book-recoveries L [] b = refl
-  book-recoveries L (n ∷ ns) b = book-recoveries L ns _
+-- where no page differs, the workspace is home
+no-page : (H w : List ℕ) (q : ℕ) → length w ≡ 64 * q → length H ≡ 64 * q → length (changes H w q) ≡ 0 → H ≡ w
+unfolding replay
+no-page H w q e f g =
+    sym (apply-none H)
+    ∙ ap (λ (es : List Entry). apply (replay 0 es) H) (sym (empty (changes H w q) g))
+    ∙ home-becomes H w q e f
+  where
+    empty : (es : List Entry) → length es ≡ 0 → es ≡ []
+    empty [] e = refl
+    empty (x ∷ es) e = absurd (omega arith)
 
--- ---- the last commit whose mark was stored
+-- ---- a switch-off in the middle of any byte
 
-storesMark : Verdict → ℕ → Bool
-storesMark (refused r) n = false
-storesMark (writes k) n = markStored k n
+pub data IsRecover : Call → Type 0 where
+  is-recover : (n v : ℕ) → IsRecover (recover n v)
 
--- was the mark of this call stored, with the book as it is
-unfoldable pub marked : (List ℕ → Bool) → ℕ → Book → Call → Bool
-unfolding storesMark
-marked accept L b (commit w n) = storesMark (judge accept L b w) n
-marked accept L b (recover n) = false
+-- "A user who switches off in the middle of any byte of a commit or recovery finds": a commit of w with k pages had n whole stores, and v in the byte of the next one
+pub record Finds (n v k : ℕ) (old w found : List ℕ) : Type 0 where
+  -- "the old index if the store of 165 hadn't begun"
+  pub before : n < 66 * k + 2 → found ≡ old
+  -- "the new one if it went through whole"
+  pub whole : 66 * k + 3 ≤ n → found ≡ w
+  -- "and one of the two, entire, if it was the byte caught"
+  pub halfway : n ≡ 66 * k + 2 → (found ≡ old) ⊎ (found ≡ w)
+  -- with the value of a mark there, that mark's
+  pub halfwayClear : n ≡ 66 * k + 2 → v ≡ 0 → found ≡ old
+  pub halfwaySet : n ≡ 66 * k + 2 → v ≡ 165 → found ≡ w
 
--- no call of the list has its mark stored
-pub data Unmarked (accept : List ℕ → Bool) (L : ℕ) : Book → List Call → Type 0 where
-  nothing : {b : Book} → Unmarked accept L b []
-  further : {b : Book} {c : Call} {cs : List Call} → marked accept L b c ≡ false → Unmarked accept L (next accept L b c) cs → Unmarked accept L b (c ∷ cs)
-
--- w is the workspace of the last commit of the list whose mark was stored
-pub record Last (accept : List ℕ → Bool) (L : ℕ) (b : Book) (cs : List Call) (w : List ℕ) : Type 0 where
-  pub before : List Call
-  pub allowed : ℕ
-  pub rest : List Call
-  pub split : cs ≡ before ++ (commit w allowed ∷ rest)
-  pub stored : marked accept L (bookAfter accept L before b) (commit w allowed) ≡ true
-  pub unstored : Unmarked accept L (next accept L (bookAfter accept L before b) (commit w allowed)) rest
+-- what is found in x: with mark 0 home at once, and with any mark what the first recovery to finish leaves, with mark 0
+pub record Found (n v k : ℕ) (old w x : List ℕ) : Type 0 where
+  pub atOnce : mark x ≡ 0 → Finds n v k old w (home x)
+  pub finished : (j m : ℕ) → answer (recoverPlan x) j ≡ Done m → Finds n v k old w (home (recovered x j)) × (mark (recovered x j) ≡ 0)
 
 module _ (accept : List ℕ → Bool) (L : ℕ) where
-  kept-unmarked : (b : Book) (c : Call) → marked accept L b c ≡ false → next accept L b c .kept ≡ b .kept
-  unfolding next marked storesMark bookAt
-  kept-unmarked b (commit w n) e = go (judge accept L b w) e
-    where
-      go : (v : Verdict) → storesMark v n ≡ false → bookAt b v w n .kept ≡ b .kept
-      go (refused r) e = refl
-      go (writes k) e = rw e
-  kept-unmarked b (recover n) e = refl
+  -- with mark 0 recoveries change nothing
+  kept-clear : {rs : List Call} (b : Book) → All IsRecover rs → b .mark ≡ 0 → bookAfter accept L rs b .kept ≡ b .kept
+  unfolding bookAfter next toldMark
+  kept-clear b none m = refl
+  kept-clear b (more (is-recover n v) a) m =
+      let e : recovering b n v ≡ toldMark b 0 = recovering-done b n v (omega (arith, need-clear b m)) in
+      kept-clear (recovering b n v) a (ap (λ (c : Book). c .mark) e) ∙ ap (λ (c : Book). c .kept) e
 
-  kept-marked : (b : Book) (w : List ℕ) (n : ℕ) → marked accept L b (commit w n) ≡ true → next accept L b (commit w n) .kept ≡ w
-  unfolding next marked storesMark bookAt
-  kept-marked b w n e = go (judge accept L b w) e
-    where
-      go : (v : Verdict) → storesMark v n ≡ true → bookAt b v w n .kept ≡ w
-      go (refused r) e = let z : _≡_ {A = ℕ} 0 1 = cc in absurd (omega arith)
-      go (writes k) e = rw e
+  -- where H is the old index or the one last logged, it stays one of the two
+  record OneOf (old w : List ℕ) (b : Book) : Type 0 where
+    either : (b .kept ≡ old) ⊎ (b .kept ≡ w)
+    last : b .logged ≡ w
 
-  unmarked-recover : (b : Book) (n : ℕ) → marked accept L b (recover n) ≡ false
-  unfolding marked
-  unmarked-recover b n = refl
+  told-one : (old w : List ℕ) (b : Book) (v : ℕ) → OneOf old w b → OneOf old w (toldMark b v)
+  unfolding toldMark
+  told-one old w b v o = by-test (eqb v 165)
+      (λ e. rw e (record { either = inr (o .last); last = o .last }))
+      (λ e. rw e (record { either = o .either; last = o .last }))
 
-  -- kept is the workspace of the last commit whose mark was stored, or what was kept at the start
-  pub last-kept : (cs : List Call) (b : Book)
-      → (Unmarked accept L b cs × (bookAfter accept L cs b .kept ≡ b .kept)) ⊎ Last accept L b cs (bookAfter accept L cs b .kept)
-  unfolding bookAfter
-  last-kept [] b = inl (nothing, refl)
-  last-kept (c ∷ cs) b = go c (last-kept cs (next accept L b c))
+  recovers-one : (old w : List ℕ) {rs : List Call} (b : Book) → All IsRecover rs → OneOf old w b → OneOf old w (bookAfter accept L rs b)
+  unfolding bookAfter next
+  recovers-one old w b none o = o
+  recovers-one old w b (more (is-recover n v) a) o =
+      recovers-one old w (recovering b n v) a (by-recovering (OneOf old w) b n v (told-one old w b 0 o) (told-one old w b v o) o)
+
+  -- where both are w, it stays w
+  recovers-same : (w : List ℕ) {rs : List Call} (b : Book) → All IsRecover rs → b .kept ≡ w → b .logged ≡ w → bookAfter accept L rs b .kept ≡ w
+  recovers-same w b a e f = ⊎-elim (λ z. z) (λ z. z) (recovers-one w w b a (record { either = inl e; last = f }) .either)
+
+  finds-book : {rs : List Call} → All IsRecover rs → (b : Book) (w : List ℕ) (k n v : ℕ) → b .mark ≡ 0
+      → Finds n v k (b .kept) w (bookAfter accept L rs (committing b w k n v) .kept)
+  unfolding toldMark logs
+  finds-book {rs} a b w k n v m = record {
+    before = λ g. rw (committing-early b n v w k g) (kept-clear b a m);
+    whole = λ g.
+        let c : Book = toldMark (logs b w k) 165 in
+        let j : ℕ = n - (66 * k + 3) in
+        rw (committing-late b n v w k g) (recovers-same w (recovering c j v) a (by-recovering (λ (d : Book). d .kept ≡ w) c j v refl (told-new v) refl) (by-recovering (λ (d : Book). d .logged ≡ w) c j v refl refl refl));
+    halfway = λ e. rw (committing-mark b n v w k e)
+        (recovers-one (b .kept) w (toldMark (logs b w k) v) a (told-one (b .kept) w (logs b w k) v (record { either = inl refl; last = refl })) .either);
+    halfwayClear = λ e z. rw (committing-mark b n v w k e, z) (kept-clear (toldMark (logs b w k) 0) a refl);
+    halfwaySet = λ e z. rw (committing-mark b n v w k e, z) (recovers-same w (toldMark (logs b w k) 165) a refl refl);
+  }
     where
-      go : (c : Call)
-          → (Unmarked accept L (next accept L b c) cs × (bookAfter accept L cs (next accept L b c) .kept ≡ next accept L b c .kept))
-          ⊎ Last accept L (next accept L b c) cs (bookAfter accept L cs (next accept L b c) .kept)
-          → (Unmarked accept L b (c ∷ cs) × (bookAfter accept L (c ∷ cs) b .kept ≡ b .kept)) ⊎ Last accept L b (c ∷ cs) (bookAfter accept L (c ∷ cs) b .kept)
-      go c (inr t) = inr (record {
-        before = c ∷ t .before;
-        allowed = t .allowed;
-        rest = t .rest;
-        split = ap (λ (z : List Call). c ∷ z) (t .split);
-        stored = t .stored;
-        unstored = t .unstored;
-      })
-      go (recover n) (inl t) = inl (further (unmarked-recover b n) (t .0), t .1 ∙ kept-unmarked b (recover n) (unmarked-recover b n))
-      go (commit w n) (inl t) = by-test (marked accept L b (commit w n))
-          (λ e. inr (rw (t .1 ∙ kept-marked b w n e) (record { before = []; allowed = n; rest = cs; split = refl; stored = e; unstored = t .0 })))
-          (λ e. inl (further e (t .0), t .1 ∙ kept-unmarked b (commit w n) e))
+      told-new : (v : ℕ) → toldMark (toldMark (logs b w k) 165) v .kept ≡ w
+      told-new v = by-test (eqb v 165) (λ e. rw e) (λ e. rw e)
+
+-- only such an image does not refuse a commit
+unrefused : (accept : List ℕ → Bool) (l w : List ℕ) {ss : List Store} → commitPlan accept l w ≡ store ss → Starts accept l
+unfolding clearPlan commitPlan headOf
+unrefused accept l w {ss} e = by-test (headOk l)
+    (λ ok. by-eq (mark l) 0
+    (λ m. by-test (accept (home l))
+    (λ fine. record { head = ok; unmarked = m; fine = fine })
+    (λ fine. no 5 (rw (ok, eq-eqb (mark l) 0 m, fine) at e)))
+    (λ m. no 3 (sym (commit-marked accept l w ok m) ∙ e)))
+    (λ ok. no 1 (rw ok at e))
+  where
+    no : (r : ℕ) → refuse r ≡ store ss → Starts accept l
+    no r e = let z : _≡_ {A = ℕ} 0 1 = cc in absurd (omega arith)
+
+-- A commit of w that is not refused, on whatever image, cut and caught anywhere; then recoveries, any number of them, cut and caught anywhere.
+module _ (accept : List ℕ → Bool) (l w : List ℕ) {ss : List Store} (plan : commitPlan accept l w ≡ store ss) (n v : ℕ) {rs : List Call} (a : All IsRecover rs) where
+  begun : Starts accept l
+  begun = unrefused accept l w plan
+
+  finds : Finds n v (length (changed l w)) (home l) w (bookOf accept l (commit w n v ∷ rs) .kept)
+  unfolding bookAfter next bookAt start
+  finds =
+      let k : ℕ = length (changed l w) in
+      let b : Book = start (home l) in
+      let verdict : judge accept (capacity l) b w ≡ writes k = writes-changed accept l (begun .head) l b (begins accept l begun) refl refl refl w n v plan in
+      by-eq k 0
+      (λ z.
+      let t : Writing accept l w k = writing accept l (begun .head) l b (begins accept l begun) refl refl refl w n v k verdict in
+      let same : home l ≡ w = no-page (home l) w (pages l) (t .same) (length-home l (head-right l (begun .head))) z in
+      let e : bookAfter accept (capacity l) rs (bookAt b (judge accept (capacity l) b w) w n v) .kept ≡ home l = rw (verdict, z) (kept-clear accept (capacity l) b a refl) in
+      record { before = λ g. e; whole = λ g. e ∙ same; halfway = λ g. inl e; halfwayClear = λ g y. e; halfwaySet = λ g y. e ∙ same })
+      (λ z.
+      let e : bookOf accept l (commit w n v ∷ rs) ≡ bookAfter accept (capacity l) rs (committing b w k n v) = rw (verdict, ne-eqb k 0 z) in
+      rw e (finds-book accept (capacity l) a b w k n v refl))
+
+  pub switched-off : Found n v (length (changed l w)) (home l) w (final accept (commit w n v ∷ rs) l)
+  switched-off =
+      let c : Claim accept l (commit w n v ∷ rs) (bookOf accept l (commit w n v ∷ rs)) (final accept (commit w n v ∷ rs) l) = claim accept l begun (commit w n v ∷ rs) in
+      record {
+        atOnce = λ z. rw (c .stands (λ y. omega arith)) finds;
+        finished = λ j m e. let r = c .recovers j m e in (rw (r .0) finds, r .1);
+      }
 
 -- ---- a commit that is done
 
 -- only done means that the allowance was enough, and that nothing refused it
 record Took (accept : List ℕ → Bool) (L : ℕ) (b : Book) (w : List ℕ) (n : ℕ) : Type 0 where
-  clear : b .owed ≡ 0
+  clear : b .mark ≡ 0
   long : length w ≡ length (b .kept)
   verdict : judge accept L b w ≡ writes (differing (b .kept) w)
   enough : leb (commitNeed (differing (b .kept) w)) n ≡ true
 
 took : (accept : List ℕ → Bool) (L : ℕ) (b : Book) (w : List ℕ) (n m : ℕ) → answerTo (judge accept L b w) n ≡ Done m → Took accept L b w n
-unfolding judge answerTo report
-took accept L b w n m e = by-test (eqb (b .owed) 0)
+unfolding judge judgeBy answerTo report
+took accept L b w n m e = by-test (eqb (b .mark) 0)
     (λ a. by-test (eqb (length w) (length (b .kept)))
     (λ c. by-test (accept w)
     (λ f. by-test (leb (differing (b .kept) w) L)
@@ -141,77 +190,44 @@ took accept L b w n m e = by-test (eqb (b .owed) 0)
     other : {r m : ℕ} → Cut r ≡ Done m → Took accept L b w n
     other e = let z : _≡_ {A = ℕ} 0 1 = cc in absurd (omega arith)
 
--- where no page differs, the workspace is what is kept
-no-page : (H w : List ℕ) (q : ℕ) → length w ≡ 64 * q → length H ≡ 64 * q → differing H w ≡ 0 → H ≡ w
-unfolding differing replay
-no-page H w q e f none =
-    let d : length H / 64 ≡ q = omega arith in
-    sym (apply-none H)
-    ∙ ap (λ (es : List Entry). apply (replay 0 es) H) (sym (empty (changes H w q) (rw d at none)))
-    ∙ home-becomes H w q e f
-  where
-    empty : (es : List Entry) → length es ≡ 0 → es ≡ []
-    empty [] e = refl
-    empty (x ∷ es) e = absurd (omega arith)
+-- a recovery of its log that is done leaves it kept
+ends-kept : (b : Book) (w : List ℕ) (k j v : ℕ) → 64 * k + 1 ≤ j
+    → (recovering (toldMark (logs b w k) 165) j v .kept ≡ w) × (recovering (toldMark (logs b w k) 165) j v .mark ≡ 0)
+unfolding toldMark logs recoverNeed needBy
+ends-kept b w k j v g = rw (recovering-done (toldMark (logs b w k) 165) j v g) (refl, refl)
 
--- a commit that is done is kept, with nothing owed
-done-kept : (accept : List ℕ → Bool) (L : ℕ) (b : Book) (w : List ℕ) (n q : ℕ) → length (b .kept) ≡ 64 * q → Took accept L b w n
-    → (next accept L b (commit w n) .kept ≡ w) × (next accept L b (commit w n) .owed ≡ 0)
-unfolding next bookAt markStored
-done-kept accept L b w n q long t = by-eq (differing (b .kept) w) 0
-    (λ z. rw (t .verdict, z) (no-page (b .kept) w q (t .long ∙ long) long z, t .clear))
+-- a commit that is done is kept, with mark 0
+done-kept : (accept : List ℕ → Bool) (L : ℕ) (b : Book) (w : List ℕ) (n v q : ℕ) → length (b .kept) ≡ 64 * q → Took accept L b w n
+    → (next accept L b (commit w n v) .kept ≡ w) × (next accept L b (commit w n v) .mark ≡ 0)
+unfolding next bookAt differing
+done-kept accept L b w n v q long t = by-eq (differing (b .kept) w) 0
     (λ z.
-    let need : commitNeed (differing (b .kept) w) ≡ 130 * differing (b .kept) w + 4 = some-commit (differing (b .kept) w) (omega arith) in
-    let enough = leb-true (commitNeed (differing (b .kept) w)) n (t .enough) in
-    rw (t .verdict, ne-eqb (differing (b .kept) w) 0 z, le-leb (66 * differing (b .kept) w + 3) n (omega arith), t .enough) (refl, refl))
+    let d : length (b .kept) / 64 ≡ q = omega arith in
+    rw (t .verdict, z) (no-page (b .kept) w q (t .long ∙ long) long (rw d at z), t .clear))
+    (λ z.
+    let k : ℕ = differing (b .kept) w in
+    let need : commitNeed k ≡ 130 * k + 4 = some-commit k (omega arith) in
+    let enough = leb-true (commitNeed k) n (t .enough) in
+    rw (t .verdict, ne-eqb k 0 z, committing-late b n v w k (omega arith)) (ends-kept b w k (n - (66 * k + 3)) v (omega arith)))
 
--- ---- the corollaries
+book-append : (accept : List ℕ → Bool) (L : ℕ) (cs ds : List Call) (b : Book) → bookAfter accept L (cs ++ ds) b ≡ bookAfter accept L ds (bookAfter accept L cs b)
+unfolding bookAfter
+book-append accept L [] ds b = refl
+book-append accept L (c ∷ cs) ds b = book-append accept L cs ds _
 
--- the book after a list of calls that starts on l
-abbrev pub bookOf : (List ℕ → Bool) → List ℕ → List Call → Book
-bookOf accept l cs = bookAfter accept (capacity l) cs (start (home l))
-
--- the image after one more recovery or commit
-abbrev pub recovered : List ℕ → ℕ → List ℕ
-recovered x n = after (recoverPlan x) n x
-
-abbrev pub committed : (List ℕ → Bool) → List ℕ → List ℕ → ℕ → List ℕ
-committed accept x w n = after (commitPlan accept x w) n x
-
--- for every list of calls from an image with a right head, mark 0 and accepted home
-module _ (accept : List ℕ → Bool) (l : List ℕ) (ok : headOk l ≡ true) (unmarked : mark l ≡ 0) (fine : accept (home l) ≡ true) where
-  -- After the list, and any further recoveries, cut at any store, the first recovery to finish leaves exactly what is kept:
-  -- the workspace of the last commit whose mark was stored, or the home bytes from the start (last-kept).
-  pub found : (cs : List Call) (ns : List ℕ) (x : List ℕ) → x ≡ final accept (cs ++ map recover ns) l
-      → (n m : ℕ) → answer (recoverPlan x) n ≡ Done m → (home (recovered x n) ≡ bookOf accept l cs .kept) × (mark (recovered x n) ≡ 0)
-  found cs ns x is n m e =
-      let r = claim accept l ok unmarked fine (cs ++ map recover ns) .recovers n m (rw is at e) in
-      let same : bookOf accept l (cs ++ map recover ns) .kept ≡ bookOf accept l cs .kept =
-      ap (λ (b : Book). b .kept) (book-append accept (capacity l) cs (map recover ns) (start (home l))) ∙ book-recoveries accept (capacity l) ns (bookOf accept l cs) in
-      rw is (r .0 ∙ same, r .1)
-
-  -- A commit cut anywhere, then recoveries cut anywhere, then one that finishes:
-  -- the new index if the commit's mark was stored, the old one if it was not.
-  pub old-or-new : (cs : List Call) (w : List ℕ) (k : ℕ) (ns : List ℕ) (x : List ℕ) → x ≡ final accept ((cs ++ (commit w k ∷ [])) ++ map recover ns) l
-      → (n m : ℕ) → answer (recoverPlan x) n ≡ Done m → home (recovered x n) ≡ pick (marked accept (capacity l) (bookOf accept l cs) (commit w k)) w (bookOf accept l cs .kept)
-  unfolding bookAfter
-  old-or-new cs w k ns x is n m e =
-      let b : Book = bookOf accept l cs in
-      found (cs ++ (commit w k ∷ [])) ns x is n m e .0
-      ∙ ap (λ (b : Book). b .kept) (book-append accept (capacity l) cs (commit w k ∷ []) (start (home l)))
-      ∙ by-test (marked accept (capacity l) b (commit w k))
-      (λ t. rw t (kept-marked accept (capacity l) b w k t))
-      (λ t. rw t (kept-unmarked accept (capacity l) b (commit w k) t))
-
+module _ (accept : List ℕ → Bool) (l : List ℕ) (s : Starts accept l) where
   -- A commit answered done is kept, and its workspace stands in home.
-  pub completed : (cs : List Call) (w x : List ℕ) → x ≡ final accept cs l → (n m : ℕ) → answer (commitPlan accept x w) n ≡ Done m
-      → (bookOf accept l (cs ++ (commit w n ∷ [])) .kept ≡ w) × (mark (committed accept x w n) ≡ 0) × (home (committed accept x w n) ≡ w)
-  unfolding bookAfter seen planOf allowance told foretold
-  completed cs w x is n m e =
+  pub completed : (cs : List Call) (w x : List ℕ) → x ≡ final accept cs l → (n v m : ℕ) → answer (commitPlan accept x w) n ≡ Done m
+      → (bookOf accept l (cs ++ (commit w n v ∷ [])) .kept ≡ w) × (mark (committed accept x w n) ≡ 0) × (home (committed accept x w n) ≡ w)
+  unfolding bookAfter seen planOf allowance value told foretold
+  completed cs w x is n v m e =
       let b : Book = bookOf accept l cs in
-      let t : Holds accept l x b = rw is (holds accept l ok unmarked fine cs) in
-      let s : Step accept l x b (commit w n) = step accept l ok x b t (commit w n) in
-      let d = done-kept accept (capacity l) b w n (pages l) (t .long) (took accept (capacity l) b w n m (sym (ap (λ (z : Seen). z .answered) (s .same)) ∙ e)) in
-      let b' : Book = next accept (capacity l) b (commit w n) in
-      let m0 : mark (committed accept x w n) ≡ 0 = marks-of (committed accept x w n) b' (s .goes-on .state) ∙ rw (eq-eqb (b' .owed) 0 (d .1)) in
-      (ap (λ (b : Book). b .kept) (book-append accept (capacity l) cs (commit w n ∷ []) (start (home l))) ∙ d .0, m0, stands-of (committed accept x w n) b' (s .goes-on .state) m0 ∙ d .0)
+      let t : Holds accept l x b = rw is (holds accept l s cs) in
+      let r : Step accept l x b (commit w n v) = step accept l (s .head) x b t (commit w n v) in
+      let d = done-kept accept (capacity l) b w n v (pages l) (t .fits .long) (took accept (capacity l) b w n m (sym (ap (λ (z : Seen). z .answered) (r .same)) ∙ e)) in
+      let b' : Book = next accept (capacity l) b (commit w n v) in
+      let h : Holds accept l (committed accept x w n) b' = rw (done-uncaught (commitPlan accept x w) n m v x e) at (r .goes-on) in (
+        ap (λ (b : Book). b .kept) (book-append accept (capacity l) cs (commit w n v ∷ []) (start (home l))) ∙ d .0,
+        h .marks ∙ d .1,
+        stands-of (committed accept x w n) b' (h .state) (λ z. omega (arith, d .1)) ∙ d .0,
+      )

@@ -4,57 +4,25 @@ use mathlib.Core.Bool.{Bool, true}
 use Prim.Native.Nat.{ℕ, _+_, _-_, _*_, _/_, _≤_, _<_}
 use native.Mathlib.Omega.{arith}
 use mathlib.Core.List.{List, []}
-use lib.ListN.{length, take}
-use lib.Seq.{take-all, take-nil, take-append-le}
+use lib.ListN.{length}
 use lib.Dec.{leb, eqb}
-use borrow.Author.Tests.{leb-true, le-leb, lt-leb, eq-eqb, ne-eqb, eqb-true}
+use borrow.Author.Tests.{leb-true, eq-eqb, ne-eqb, eqb-true}
 use Rattle.wire.specs.Bytes.{pick}
-use Rattle.wire.specs.Cases.{by-test, by-lt}
-use Rattle.wire.specs.All.{all-take}
-use Rattle.redo.specs.Store.{Store, apply}
-use Rattle.redo.specs.StoreLaws.{apply-take-append}
-use Rattle.redo.specs.Image.{capacity, mark, pages, homeAt, headOk}
-use Rattle.redo.specs.ImageLaws.{SameHead, same-trans, head-kept, head-same, capacity-same, pages-same}
+use Rattle.wire.specs.Cases.{by-test, by-lt, by-eq}
+use Rattle.redo.specs.Store.{Store, apply, run, halfway}
+use Rattle.redo.specs.StoreLaws.{apply-none, apply-append}
+use Rattle.redo.specs.Image.{capacity, mark, pages, homeAt, home, headOk}
+use Rattle.redo.specs.ImageLaws.{same-trans, head-same, capacity-same, pages-same}
 use Rattle.redo.specs.Entry.{Entry, changes}
-use Rattle.redo.specs.Stores.{recoverStores, logStores, commitStores}
+use Rattle.redo.specs.Stores.{clearMark, recoverStores, logStores, commitStores}
 use Rattle.redo.specs.StoresLaws.{length-log, length-commit, commit-none, commit-is}
-use Rattle.log.specs.HeadLaws.{head-clear, head-committed}
-use Rattle.log.specs.Calls.{Plan, unless, refuse, store, answer, after, changed, logOf, logOk, committedPlan, recoverPlan, clearPlan, commitPlan}
-use Rattle.log.specs.CallLaws.{spare-log}
-use Rattle.log.specs.Book.{Call, commit, recover, allowance, planOf, seen, Book, differing, refused, writes, judge, commitNeed, recoverNeed, report, markStored, answerTo, bookAt, foretold, next, leftBy, told}
-use Rattle.log.specs.Holds.{answer-report, after-report, Settled, Owing, recover-length, recover-head, recover-owes, recover-settles, long-changes, commit-early, commit-head, commit-log, commit-owes}
-
--- ---- plans by the state of the image
-
-pub recover-clear : (l : List ℕ) → headOk l ≡ true → mark l ≡ 0 → recoverPlan l ≡ store []
-unfolding recoverPlan
-recover-clear l ok m = rw (head-clear l ok m)
-
-pub recover-committed : (l : List ℕ) → headOk l ≡ true → mark l ≡ 165 → logOk l ≡ true → recoverPlan l ≡ store (recoverStores (homeAt l) (logOf l))
-unfolding recoverPlan committedPlan
-recover-committed l ok m e = rw (head-committed l ok m, e)
-
-module _ (accept : List ℕ → Bool) (l w : List ℕ) (ok : headOk l ≡ true) where
-  pub commit-clear : mark l ≡ 0 → commitPlan accept l w ≡ clearPlan accept l w
-  unfolding commitPlan
-  commit-clear m = rw (head-clear l ok m)
-
-  pub commit-committed : mark l ≡ 165 → commitPlan accept l w ≡ refuse 3
-  unfolding commitPlan
-  commit-committed m = rw (head-committed l ok m)
-
--- ---- what holds between calls
-
-pub data State (l : List ℕ) (b : Book) : Type 0 where
-  settled : b .owed ≡ 0 → Settled l (b .kept) → State l b
-  owing : 1 ≤ b .owed → Owing l (b .kept) (b .owed) → State l b
-
--- of the image l and the book b, in a list of calls that started on l₀
-pub record Holds (accept : List ℕ → Bool) (l₀ l : List ℕ) (b : Book) : Type 0 where
-  pub head : SameHead l₀ l
-  pub fine : accept (b .kept) ≡ true
-  pub long : length (b .kept) ≡ 64 * pages l₀
-  pub state : State l b
+use Rattle.redo.specs.Torn.{torn, torn-all, torn-first, torn-second}
+use Rattle.log.specs.Calls.{Plan, unless, refuse, store, answer, after, changed, logOf, recoverPlan, clearPlan, commitPlan}
+use Rattle.log.specs.CallLaws.{log-last, log-mark-same, recover-marked, recover-last, recover-zero}
+use Rattle.log.specs.Book.{Call, commit, recover, allowance, value, planOf, rest, caught, seen, Book, logs, toldMark, recovering, committing, differing, refused, writes, judgeBy, judge, recoverNeed, report, answerTo, bookAt, foretold, next, leftBy, told}
+use Rattle.log.specs.BookLaws.{need-clear, need-marked, no-commit, some-commit, recovering-done, recovering-last, recovering-cut, by-committing}
+use Rattle.log.specs.Logged.{answer-report, caught-is, caught-report, Logged, long-log, log-long, recover-length, recover-head, recover-logged, recover-home, long-changes, commit-torn, commit-stands, commit-unmarked, commit-head, commit-home, commit-log, commit-logged}
+use Rattle.log.specs.Holds.{recover-clear, recover-committed, recover-spoiled, commit-clear, commit-marked, State, settled, owing, spoiled, Holds, Ready, moved, told-fits, tell}
 
 -- a call's own answer and image are those of the book, and what holds goes on
 pub record Step (accept : List ℕ → Bool) (l₀ l : List ℕ) (b : Book) (c : Call) : Type 0 where
@@ -62,171 +30,299 @@ pub record Step (accept : List ℕ → Bool) (l₀ l : List ℕ) (b : Book) (c :
   pub goes-on : Holds accept l₀ (seen accept c l .image) (next accept (capacity l₀) b c)
 
 -- a plan of stores, as many as the book says
-told-store : (p : Plan) (ss : List Store) (need n : ℕ) (l : List ℕ) → p ≡ store ss → length ss ≡ need
-    → (answer p n ≡ report need n) × (after p n l ≡ leftBy (report need n) p l)
-told-store p ss need n l e f = rw (e, ← f) (answer-report ss n, after-report ss n l)
+told-store : (p : Plan) (ss : List Store) (need n v : ℕ) (l : List ℕ) → p ≡ store ss → length ss ≡ need
+    → (answer p n ≡ report need n) × (caught p n v l ≡ leftBy (report need n) p v l)
+told-store p ss need n v l e f = rw (e, ← f) (answer-report ss n, caught-report ss n v l)
 
--- the book's numbers
-no-need : (p : ℕ) → p ≡ 0 → recoverNeed p ≡ 0
-unfolding recoverNeed
-no-need p e = rw e
-
-some-need : (p : ℕ) → 1 ≤ p → recoverNeed p ≡ 64 * p + 1
-unfolding recoverNeed
-some-need p g = rw (ne-eqb p 0 (λ e. omega arith))
-
-no-commit : commitNeed 0 ≡ 0
-unfolding commitNeed
-no-commit = refl
-
-pub some-commit : (k : ℕ) → 0 < k → commitNeed k ≡ 130 * k + 4
-unfolding commitNeed
-some-commit k g = rw (ne-eqb k 0 (λ e. omega arith))
+-- ---- recover
 
 module _ (accept : List ℕ → Bool) (l₀ : List ℕ) (ok₀ : headOk l₀ ≡ true) (l : List ℕ) (b : Book) (t : Holds accept l₀ l b) where
   ok : headOk l ≡ true
   ok = head-same (t .head) ∙ ok₀
 
-  -- ---- recover
+  -- what it comes to: as many stores as the book says, and what holds goes on
+  record Recovers (n v : ℕ) : Type 0 where
+    stores : List Store
+    plan : recoverPlan l ≡ store stores
+    need : length stores ≡ recoverNeed b
+    goes : Holds accept l₀ (caught (recoverPlan l) n v l) (recovering b n v)
 
-  recover-settled : (n : ℕ) → b .owed ≡ 0 → Settled l (b .kept) → Step accept l₀ l b (recover n)
-  unfolding seen told planOf allowance foretold next after apply
-  recover-settled n e s =
-      let plan : recoverPlan l ≡ store [] = recover-clear l ok (s .unmarked) in
-      let both = told-store (recoverPlan l) [] (recoverNeed (b .owed)) n l plan (sym (no-need (b .owed) e)) in
+  recovers-settled : (n v : ℕ) → b .mark ≡ 0 → b .owed ≡ 0 → home l ≡ b .kept → Recovers n v
+  unfolding toldMark torn
+  recovers-settled n v m e s =
+      let plan : recoverPlan l ≡ store [] = recover-clear l ok (t .marks ∙ m) in
+      let need : recoverNeed b ≡ 0 = need-clear b m in
       record {
-        same = λ i. record { answered = both .0 i; image = both .1 i };
-        goes-on = rw (plan, no-need (b .owed) e, le-leb 0 n (omega arith), take-nil) (record { head = t .head; fine = t .fine; long = t .long; state = settled refl s });
+        stores = [];
+        plan = plan;
+        need = sym need;
+        goes = moved accept l₀ ok₀ (ap (λ (p : Plan). caught p n v l) plan ∙ caught-is [] n v l ∙ apply-none l) (recovering-done b n v (omega arith))
+            (record {
+              head = t .head;
+              fits = told-fits accept l₀ ok₀ b 0 (t .fits);
+              marks = t .marks ∙ m;
+              state = settled refl refl s;
+            });
       }
 
-  recover-owing : (n : ℕ) → 1 ≤ b .owed → Owing l (b .kept) (b .owed) → Step accept l₀ l b (recover n)
-  unfolding seen told planOf allowance foretold next after
-  recover-owing n g o =
-      let ss : List Store = recoverStores (homeAt l) (logOf l) in
-      let p : ℕ = b .owed in
-      let plan : recoverPlan l ≡ store ss = recover-committed l ok (o .marked) (o .right) in
-      let long : length ss ≡ recoverNeed p = recover-length l (b .kept) p ok o ∙ sym (some-need p g) in
-      let both = told-store (recoverPlan l) ss (recoverNeed p) n l plan long in
-      let head : SameHead l₀ (apply (take n ss) l) = same-trans (t .head) (recover-head l (b .kept) p ok o n) in
+  module _ (m : b .mark ≡ 165) (e : b .owed ≡ b .loggedPages) (f : b .kept ≡ b .logged) (o : Logged l (b .logged) (b .loggedPages)) where
+    replays : List Store
+    replays = recoverStores (homeAt l) (logOf l)
+
+    ready-done : Ready accept l₀ (apply replays l) b
+    unfolding replays
+    ready-done =
+        let long = recover-length l (b .logged) (b .loggedPages) ok o in
+        let all : torn (64 * b .loggedPages + 1) 0 replays ≡ replays = torn-all (64 * b .loggedPages + 1) 0 replays (omega arith) in
+        record {
+          head = same-trans (t .head) (rw all at (recover-head l (b .logged) (b .loggedPages) ok o (64 * b .loggedPages + 1) 0));
+          fits = t .fits;
+          stands = recover-home l (b .logged) (b .loggedPages) ok o ∙ sym f;
+          log = rw all at (recover-logged l (b .logged) (b .loggedPages) ok o (64 * b .loggedPages + 1) 0);
+        }
+
+    recovers-owing : (n v : ℕ) → Recovers n v
+    unfolding replays
+    recovers-owing n v =
+        let plan : recoverPlan l ≡ store replays = recover-committed l ok (t .marks ∙ m) (o .right) in
+        let long : length replays ≡ 64 * b .loggedPages + 1 = recover-length l (b .logged) (b .loggedPages) ok o in
+        let need : recoverNeed b ≡ 64 * b .owed + 1 = need-marked b (λ z. omega arith) in
+        let es = long-log l (b .logged) (b .loggedPages) ok o in
+        let q : length (logOf l) ≡ b .loggedPages = log-long l (b .logged) (b .loggedPages) ok o in
+        let is : caught (recoverPlan l) n v l ≡ apply (torn n v replays) l = ap (λ (p : Plan). caught p n v l) plan ∙ caught-is replays n v l in
+        record {
+          stores = replays;
+          plan = plan;
+          need = omega arith;
+          goes = by-lt n (64 * b .owed)
+              -- cut before the last store, it owes the same
+              (λ g. moved accept l₀ ok₀ is (recovering-cut b n v (omega arith)) (record {
+                head = same-trans (t .head) (recover-head l (b .logged) (b .loggedPages) ok o n v);
+                fits = t .fits;
+                marks = recover-marked l (homeAt l) (logOf l) n v (omega arith) es (omega arith) ∙ t .marks;
+                state = owing m e f (recover-logged l (b .logged) (b .loggedPages) ok o n v);
+              }))
+              (λ g. by-eq n (64 * b .owed)
+              -- at it
+              (λ z. moved accept l₀ ok₀ (is ∙ recover-last l (homeAt l) (logOf l) n v (omega arith) es) (recovering-last b n v (omega arith)) (tell accept l₀ ok₀ (apply replays l) b ready-done v))
+              -- done
+              (λ z. moved accept l₀ ok₀ (is ∙ ap (λ (ss : List Store). apply ss l) (torn-all n v replays (omega arith)) ∙ sym (recover-zero l (homeAt l) (logOf l)))
+              (recovering-done b n v (omega arith)) (tell accept l₀ ok₀ (apply replays l) b ready-done 0)));
+        }
+
+  recovers-spoiled : (n v : ℕ) → (b .mark ≡ 0 → ⊥) → (b .mark ≡ 165 → ⊥) → b .owed ≡ 0 → home l ≡ b .kept → Logged l (b .logged) (b .loggedPages) → Recovers n v
+  unfolding clearMark run apply torn
+  recovers-spoiled n v f g e s o =
+      let plan : recoverPlan l ≡ store clearMark = recover-spoiled l ok (λ z. f (sym (t .marks) ∙ z)) (λ z. g (sym (t .marks) ∙ z)) in
+      let need : recoverNeed b ≡ 64 * b .owed + 1 = need-marked b f in
+      let is : caught (recoverPlan l) n v l ≡ apply (torn n v clearMark) l = ap (λ (p : Plan). caught p n v l) plan ∙ caught-is clearMark n v l in
+      let ready : Ready accept l₀ l b = record { head = t .head; fits = t .fits; stands = s; log = o } in
       record {
-        same = λ i. record { answered = both .0 i; image = both .1 i };
-        goes-on = rw (plan, some-need p g)
-            (by-lt n (64 * p + 1)
-            (λ h. rw (lt-leb (64 * p + 1) n h) (record { head = head; fine = t .fine; long = t .long; state = owing g (recover-owes l (b .kept) p ok o n (omega arith)) }))
-            (λ h. rw (le-leb (64 * p + 1) n h) (record { head = head; fine = t .fine; long = t .long; state = settled refl (recover-settles l (b .kept) p ok o n (omega arith)) })));
+        stores = clearMark;
+        plan = plan;
+        need = omega arith;
+        goes = by-eq n 0
+            (λ z. moved accept l₀ ok₀ (is ∙ ap (λ (j : ℕ). apply (torn j v clearMark) l) z) (recovering-last b n v (omega arith)) (tell accept l₀ ok₀ l b ready v))
+            (λ z. moved accept l₀ ok₀ (is ∙ ap (λ (ss : List Store). apply ss l) (torn-all n v clearMark (omega arith)))
+            (recovering-done b n v (omega arith)) (tell accept l₀ ok₀ l b ready 0));
       }
 
-  -- ---- commit
+  recovers : (n v : ℕ) → Recovers n v
+  recovers n v = by-state (t .state)
+    where
+      by-state : State l b → Recovers n v
+      by-state (settled m e s) = recovers-settled n v m e s
+      by-state (owing m e f o) = recovers-owing m e f o n v
+      by-state (spoiled f g e s o) = recovers-spoiled n v f g e s o
 
-  owed-judged : (w : List ℕ) → 1 ≤ b .owed → judge accept (capacity l₀) b w ≡ refused 3
-  unfolding judge
-  owed-judged w g = rw (ne-eqb (b .owed) 0 (λ e. omega arith))
+  pub recover-goes : (n v : ℕ) → Holds accept l₀ (caught (recoverPlan l) n v l) (recovering b n v)
+  recover-goes n v = recovers n v .goes
 
-  commit-refused : (w : List ℕ) (n r : ℕ) → commitPlan accept l w ≡ refuse r → judge accept (capacity l₀) b w ≡ refused r → Step accept l₀ l b (commit w n)
-  unfolding seen told planOf allowance foretold next after answer answerTo bookAt leftBy
-  commit-refused w n r plan verdict = record { same = rw (plan, verdict); goes-on = rw (plan, verdict) t }
+  recover-step : (n v : ℕ) → Step accept l₀ l b (recover n v)
+  unfolding seen told planOf allowance value foretold next
+  recover-step n v =
+      let r : Recovers n v = recovers n v in
+      let both = told-store (recoverPlan l) (r .stores) (recoverNeed b) n v l (r .plan) (r .need) in
+      record { same = λ i. record { answered = both .0 i; image = both .1 i }; goes-on = r .goes }
 
-  module _ (s : Settled l (b .kept)) (e : b .owed ≡ 0) (w : List ℕ) (n : ℕ) where
+-- ---- commit
+
+-- k pages of w are to be written
+pub record Writing (accept : List ℕ → Bool) (l w : List ℕ) (k : ℕ) : Type 0 where
+  pub plan : commitPlan accept l w ≡ store (commitStores (homeAt l) (changed l w))
+  pub same : length w ≡ 64 * pages l
+  pub count : length (changed l w) ≡ k
+  pub fit : length (changed l w) ≤ capacity l
+
+module _ (accept : List ℕ → Bool) (l₀ : List ℕ) (ok₀ : headOk l₀ ≡ true) (l : List ℕ) (b : Book) (t : Holds accept l₀ l b) where
+  okay : headOk l ≡ true
+  okay = head-same (t .head) ∙ ok₀
+
+  commit-refused : (w : List ℕ) (n v r : ℕ) → commitPlan accept l w ≡ refuse r → judge accept (capacity l₀) b w ≡ refused r → Step accept l₀ l b (commit w n v)
+  unfolding seen told planOf allowance value foretold next caught rest halfway after answer answerTo bookAt leftBy
+  commit-refused w n v r plan verdict = record { same = rw (plan, verdict); goes-on = rw (plan, verdict) t }
+
+  marked-judged : (w : List ℕ) → (b .mark ≡ 0 → ⊥) → judge accept (capacity l₀) b w ≡ refused 3
+  unfolding judge judgeBy
+  marked-judged w f = rw (ne-eqb (b .mark) 0 f)
+
+  commit-unsettled : (w : List ℕ) (n v : ℕ) → (b .mark ≡ 0 → ⊥) → Step accept l₀ l b (commit w n v)
+  commit-unsettled w n v f = commit-refused w n v 3 (commit-marked accept l w okay (λ z. f (sym (t .marks) ∙ z))) (marked-judged w f)
+
+  module _ (m : b .mark ≡ 0) (e : b .owed ≡ 0) (s : home l ≡ b .kept) (w : List ℕ) (n v : ℕ) where
     stored : List Store
     stored = commitStores (homeAt l) (changed l w)
 
     -- a commit that nothing refuses, of no page
     commit-nothing : commitPlan accept l w ≡ store stored → judge accept (capacity l₀) b w ≡ writes (length (changed l w)) → length (changed l w) ≡ 0
-        → Step accept l₀ l b (commit w n)
-    unfolding seen told planOf allowance foretold next after answerTo bookAt markStored stored apply
+        → Step accept l₀ l b (commit w n v)
+    unfolding seen told planOf allowance value foretold next answerTo bookAt stored torn
     commit-nothing plan verdict none =
-        let empty : stored ≡ [] = commit-none (homeAt l) (changed l w) none in
-        let both = told-store (commitPlan accept l w) [] 0 n l (plan ∙ ap store empty) refl in
+        let empty : commitPlan accept l w ≡ store [] = plan ∙ ap store (commit-none (homeAt l) (changed l w) none) in
+        let both = told-store (commitPlan accept l w) [] 0 n v l empty refl in
         record {
           same = rw (verdict, none, no-commit) (λ i. record { answered = both .0 i; image = both .1 i });
-          goes-on = rw (plan, verdict, none, empty, take-nil) t;
+          goes-on = rw (verdict, none) (moved accept l₀ ok₀ (ap (λ (p : Plan). caught p n v l) empty ∙ caught-is [] n v l ∙ apply-none l) refl t);
         }
 
     -- of some pages
-    module _ (same : length w ≡ 64 * pages l) (fit : length (changed l w) ≤ capacity l) (some : 0 < length (changed l w)) where
+    module _ (same : length w ≡ 64 * pages l) (fit : length (changed l w) ≤ capacity l) (some : 0 < length (changed l w)) (fine : accept w ≡ true) where
       k : ℕ
       k = length (changed l w)
 
-      logs : List Store
-      logs = logStores (changed l w)
+      logging : List Store
+      logging = logStores (changed l w)
 
-      long-logs : length logs ≡ 66 * k + 3
-      unfolding k logs
-      long-logs = length-log (long-changes l w ok same fit)
+      long-logs : length logging ≡ 66 * k + 3
+      unfolding k logging
+      long-logs = length-log (long-changes l w okay same fit)
 
-      -- cut before the mark's store
-      commit-before : n < 66 * k + 3 → Holds accept l₀ (apply (take n stored) l) b
-      unfolding k stored logs
-      commit-before g =
-          let es = changed l w in
-          let cut : take n stored ≡ take n logs = ap (take n) (commit-is (homeAt l) es some) ∙ take-append-le n logs (recoverStores (homeAt l) es) (omega (arith, long-logs)) in
-          let long = long-changes l w ok same fit in
-          let early = commit-early l w ok same fit n g (s .unmarked) in
-          rw cut (record {
-            head = same-trans (t .head) (head-kept l (all-take n (spare-log long)));
-            fine = t .fine;
-            long = t .long;
-            state = settled e (record { unmarked = early .unmarked; stands = early .stands ∙ s .stands });
-          })
+      -- torn before the mark's store
+      commit-before : n < 66 * k + 2 → Holds accept l₀ (apply (torn n v logging) l) b
+      unfolding k logging
+      commit-before g = record {
+        head = same-trans (t .head) (commit-torn l w okay same fit n v);
+        fits = t .fits;
+        marks = commit-unmarked l w okay same fit n v g ∙ t .marks;
+        state = settled m e (commit-stands l w okay same fit n v ∙ s);
+      }
 
-      -- cut after it, or not at all: a recovery of the log goes on from there
-      commit-behind : accept w ≡ true → 66 * k + 3 ≤ n → Holds accept l₀ (apply (take n stored) l) (record { kept = w; owed = pick (leb (130 * k + 4) n) 0 k })
-      unfolding k stored logs
-      commit-behind fine g =
+      -- the log is whole
+      commit-ready : Ready accept l₀ (apply logging l) (logs b w k)
+      unfolding k logging logs
+      commit-ready = record {
+        head = same-trans (t .head) (commit-head l w okay same fit);
+        fits = record {
+          fine = t .fits .fine;
+          long = t .fits .long;
+          fineLogged = fine;
+          longLogged = same ∙ ap (λ (j : ℕ). 64 * (26 + j)) (pages-same (t .head));
+        };
+        stands = commit-home l w okay same fit ∙ s;
+        log = commit-logged l w okay same fit some;
+      }
+
+      -- torn behind the mark's store, or not at all: a recovery of the log goes on from there
+      commit-behind : 66 * k + 3 ≤ n → Holds accept l₀ (apply (torn n v stored) l) (recovering (toldMark (logs b w k) 165) (n - (66 * k + 3)) v)
+      unfolding k stored logging logs toldMark
+      commit-behind g =
           let es : List Entry = changed l w in
-          let x : List ℕ = apply logs l in
-          let m : ℕ = n - length logs in
-          let kept = commit-head l w ok same fit in
-          let okx : headOk x ≡ true = head-same kept ∙ ok in
-          let o : Owing x w k = commit-owes l w ok same fit some in
-          let ss : List Store = recoverStores (homeAt x) (logOf x) in
-          let is : apply (take n stored) l ≡ apply (take m ss) x =
-          ap (λ (z : List Store). apply (take n z) l) (commit-is (homeAt l) es some)
-          ∙ apply-take-append n logs (recoverStores (homeAt l) es) l
-          ∙ ap (λ (z : List Store). apply (take m (recoverStores (homeAt l) es)) (apply z l)) (take-all n logs (omega (arith, long-logs)))
-          ∙ ap₂ (λ (j : ℕ) (fs : List Entry). apply (take m (recoverStores (64 + 66 * j) fs)) x) (sym (capacity-same kept)) (sym (commit-log l w ok same fit)) in
-          let head : SameHead l₀ (apply (take m ss) x) = same-trans (same-trans (t .head) kept) (recover-head x w k okx o m) in
-          let long : length w ≡ 64 * pages l₀ = same ∙ ap (λ (j : ℕ). 64 * (26 + j)) (pages-same (t .head)) in
-          rw is
-          (by-lt n (130 * k + 4)
-          (λ h. rw (lt-leb (130 * k + 4) n h) (record { head = head; fine = fine; long = long; state = owing some (recover-owes x w k okx o m (omega (arith, long-logs))) }))
-          (λ h. rw (le-leb (130 * k + 4) n h) (record { head = head; fine = fine; long = long; state = settled refl (recover-settles x w k okx o m (omega (arith, long-logs))) })))
+          let x : List ℕ = apply logging l in
+          let j : ℕ = n - (66 * k + 3) in
+          let c : Book = toldMark (logs b w k) 165 in
+          let h : Holds accept l₀ x c = moved accept l₀ ok₀ (sym (log-mark-same l es)) refl (tell accept l₀ ok₀ x (logs b w k) commit-ready 165) in
+          let kept = commit-head l w okay same fit in
+          let okx : headOk x ≡ true = head-same kept ∙ okay in
+          let log : Logged x w k = commit-logged l w okay same fit some in
+          let plan : recoverPlan x ≡ store (recoverStores (homeAt x) (logOf x)) = recover-committed x okx (h .marks) (log .right) in
+          let is : apply (torn n v stored) l ≡ caught (recoverPlan x) j v x =
+          ap (λ (z : List Store). apply (torn n v z) l) (commit-is (homeAt l) es some)
+          ∙ ap (λ (z : List Store). apply z l) (torn-second n v logging (recoverStores (homeAt l) es) (omega (arith, long-logs)))
+          ∙ apply-append logging (torn (n - length logging) v (recoverStores (homeAt l) es)) l
+          ∙ ap (λ (i : ℕ). apply (torn (n - i) v (recoverStores (homeAt l) es)) x) long-logs
+          ∙ ap₂ (λ (i : ℕ) (fs : List Entry). apply (torn j v (recoverStores (64 + 66 * i) fs)) x) (sym (capacity-same kept)) (sym (commit-log l w okay same fit))
+          ∙ sym (caught-is (recoverStores (homeAt x) (logOf x)) j v x)
+          ∙ sym (ap (λ (p : Plan). caught p j v x) plan) in
+          moved accept l₀ ok₀ is refl (recover-goes accept l₀ ok₀ x c h j v)
 
-      commit-some : commitPlan accept l w ≡ store stored → judge accept (capacity l₀) b w ≡ writes (length (changed l w)) → accept w ≡ true
-          → Step accept l₀ l b (commit w n)
-      unfolding seen told planOf allowance foretold next after answerTo bookAt markStored stored k
-      commit-some plan verdict fine =
-          let need : length stored ≡ 130 * k + 4 = length-commit (homeAt l) (changed l w) some (long-changes l w ok same fit) in
-          let both = told-store (commitPlan accept l w) stored (130 * k + 4) n l plan need in
+      commit-goes : commitPlan accept l w ≡ store stored → Holds accept l₀ (caught (commitPlan accept l w) n v l) (committing b w k n v)
+      unfolding stored logging k
+      commit-goes plan =
+          let is : caught (commitPlan accept l w) n v l ≡ apply (torn n v stored) l = ap (λ (p : Plan). caught p n v l) plan ∙ caught-is stored n v l in
+          by-committing (Holds accept l₀ (caught (commitPlan accept l w) n v l)) b w k n v
+          (λ g. moved accept l₀ ok₀ (is ∙ cut (omega arith)) refl (commit-before g))
+          (λ z. moved accept l₀ ok₀ (is ∙ cut (omega arith) ∙ log-last (long-changes l w okay same fit) l n v z) refl (tell accept l₀ ok₀ (apply logging l) (logs b w k) commit-ready v))
+          (λ g. moved accept l₀ ok₀ is refl (commit-behind g))
+        where
+          cut : n < 66 * k + 3 → apply (torn n v (commitStores (homeAt l) (changed l w))) l ≡ apply (torn n v logging) l
+          cut g = ap (λ (z : List Store). apply (torn n v z) l) (commit-is (homeAt l) (changed l w) some) ∙ ap (λ (z : List Store). apply z l) (torn-first n v logging (recoverStores (homeAt l) (changed l w)) (omega (arith, long-logs)))
+
+      commit-some : commitPlan accept l w ≡ store stored → judge accept (capacity l₀) b w ≡ writes (length (changed l w))
+          → Step accept l₀ l b (commit w n v)
+      unfolding seen told planOf allowance value foretold next answerTo bookAt stored k
+      commit-some plan verdict =
+          let need : length stored ≡ 130 * k + 4 = length-commit (homeAt l) (changed l w) some (long-changes l w okay same fit) in
+          let both = told-store (commitPlan accept l w) stored (130 * k + 4) n v l plan need in
           record {
             same = rw (verdict, some-commit k some) (λ i. record { answered = both .0 i; image = both .1 i });
-            goes-on = rw (plan, verdict, ne-eqb k 0 (λ z. omega arith), some-commit k some)
-                (by-lt n (66 * k + 3)
-                (λ g. rw (lt-leb (66 * k + 3) n g) (commit-before g))
-                (λ g. rw (le-leb (66 * k + 3) n g) (commit-behind fine g)));
+            goes-on = rw (verdict, ne-eqb k 0 (λ z. omega arith)) (commit-goes plan);
           }
 
     -- the book's tests are the commit's
     differ : differing (b .kept) w ≡ length (changed l w)
     unfolding differing
     differ =
-        let q : length (b .kept) / 64 ≡ pages l = omega (arith, t .long, pages-same (t .head)) in
-        ap₂ (λ (H : List ℕ) (j : ℕ). length (changes H w j)) (sym (s .stands)) q
+        let q : length (b .kept) / 64 ≡ pages l = omega (arith, t .fits .long, pages-same (t .head)) in
+        ap₂ (λ (H : List ℕ) (j : ℕ). length (changes H w j)) (sym s) q
 
     kept-long : 64 * pages l ≡ length (b .kept)
-    kept-long = omega (arith, t .long, pages-same (t .head))
+    kept-long = omega (arith, t .fits .long, pages-same (t .head))
 
     plan-is : commitPlan accept l w
         ≡ unless (eqb (length w) (length (b .kept))) 6 (unless (accept w) 7 (unless (leb (length (changed l w)) (capacity l₀)) 13 (store stored)))
     unfolding clearPlan stored
-    plan-is = commit-clear accept l w ok (s .unmarked) ∙ rw (ap accept (s .stands) ∙ t .fine, kept-long, capacity-same (t .head))
+    plan-is = commit-clear accept l w okay (t .marks ∙ m) ∙ rw (ap accept s ∙ t .fits .fine, kept-long, capacity-same (t .head))
 
     verdict-is : judge accept (capacity l₀) b w
         ≡ pick (eqb (length w) (length (b .kept))) (pick (accept w) (pick (leb (length (changed l w)) (capacity l₀)) (writes (length (changed l w))) (refused 13)) (refused 7)) (refused 6)
-    unfolding judge
-    verdict-is = rw (eq-eqb (b .owed) 0 e, differ)
+    unfolding judge judgeBy
+    verdict-is = rw (eq-eqb (b .mark) 0 m, differ)
 
-    commit-settled : Step accept l₀ l b (commit w n)
+    -- what a commit with k pages to write is
+    pub writing : (j : ℕ) → judge accept (capacity l₀) b w ≡ writes j → Writing accept l w j
+    unfolding stored
+    writing j is = by-test (eqb (length w) (length (b .kept)))
+        (λ long. by-test (accept w)
+        (λ fine. by-test (leb (length (changed l w)) (capacity l₀))
+        (λ fit.
+        let verdict : writes (length (changed l w)) ≡ writes j = sym (verdict-is ∙ rw (long, fine, fit)) ∙ is in
+        record {
+          plan = plan-is ∙ rw (long, fine, fit);
+          count = cc;
+          same = eqb-true _ _ long ∙ sym kept-long;
+          fit = omega (arith, leb-true (length (changed l w)) (capacity l₀) fit, capacity-same (t .head));
+        })
+        (λ fit. no 13 (sym (verdict-is ∙ rw (long, fine, fit)) ∙ is)))
+        (λ fine. no 7 (sym (verdict-is ∙ rw (long, fine)) ∙ is)))
+        (λ long. no 6 (sym (verdict-is ∙ rw long) ∙ is))
+      where
+        no : (r : ℕ) → refused r ≡ writes j → Writing accept l w j
+        no r e = let z : _≡_ {A = ℕ} 0 1 = cc in absurd (omega arith)
+
+    -- and the other way
+    pub writes-changed : {ss : List Store} → commitPlan accept l w ≡ store ss → judge accept (capacity l₀) b w ≡ writes (length (changed l w))
+    writes-changed {ss} is = by-test (eqb (length w) (length (b .kept)))
+        (λ long. by-test (accept w)
+        (λ fine. by-test (leb (length (changed l w)) (capacity l₀))
+        (λ fit. verdict-is ∙ rw (long, fine, fit))
+        (λ fit. no 13 (sym (plan-is ∙ rw (long, fine, fit)) ∙ is)))
+        (λ fine. no 7 (sym (plan-is ∙ rw (long, fine)) ∙ is)))
+        (λ long. no 6 (sym (plan-is ∙ rw long) ∙ is))
+      where
+        no : (r : ℕ) → refuse r ≡ store ss → judge accept (capacity l₀) b w ≡ writes (length (changed l w))
+        no r e = let z : _≡_ {A = ℕ} 0 1 = cc in absurd (omega arith)
+
+    commit-settled : Step accept l₀ l b (commit w n v)
     commit-settled = by-test (eqb (length w) (length (b .kept)))
         (λ long. by-test (accept w)
         (λ fine. by-test (leb (length (changed l w)) (capacity l₀))
@@ -235,22 +331,19 @@ module _ (accept : List ℕ → Bool) (l₀ : List ℕ) (ok₀ : headOk l₀ ≡
         let verdict = verdict-is ∙ rw (long, fine, fit) in
         let same : length w ≡ 64 * pages l = eqb-true _ _ long ∙ sym kept-long in
         by-lt 0 (length (changed l w))
-        (λ some. commit-some same (omega (arith, leb-true (length (changed l w)) (capacity l₀) fit, capacity-same (t .head))) some plan verdict fine)
+        (λ some. commit-some same (omega (arith, leb-true (length (changed l w)) (capacity l₀) fit, capacity-same (t .head))) some fine plan verdict)
         (λ none. commit-nothing plan verdict (omega arith)))
-        (λ fit. commit-refused w n 13 (plan-is ∙ rw (long, fine, fit)) (verdict-is ∙ rw (long, fine, fit))))
-        (λ fine. commit-refused w n 7 (plan-is ∙ rw (long, fine)) (verdict-is ∙ rw (long, fine))))
-        (λ long. commit-refused w n 6 (plan-is ∙ rw long) (verdict-is ∙ rw long))
+        (λ fit. commit-refused w n v 13 (plan-is ∙ rw (long, fine, fit)) (verdict-is ∙ rw (long, fine, fit))))
+        (λ fine. commit-refused w n v 7 (plan-is ∙ rw (long, fine)) (verdict-is ∙ rw (long, fine))))
+        (λ long. commit-refused w n v 6 (plan-is ∙ rw long) (verdict-is ∙ rw long))
 
   -- ---- any call
 
   pub step : (c : Call) → Step accept l₀ l b c
-  step (commit w n) = by-state (t .state)
+  step (commit w n v) = by-state (t .state)
     where
-      by-state : State l b → Step accept l₀ l b (commit w n)
-      by-state (settled e s) = commit-settled s e w n
-      by-state (owing g o) = commit-refused w n 3 (commit-committed accept l w ok (o .marked)) (owed-judged w g)
-  step (recover n) = by-state (t .state)
-    where
-      by-state : State l b → Step accept l₀ l b (recover n)
-      by-state (settled e s) = recover-settled n e s
-      by-state (owing g o) = recover-owing n g o
+      by-state : State l b → Step accept l₀ l b (commit w n v)
+      by-state (settled m e s) = commit-settled m e s w n v
+      by-state (owing m e f o) = commit-unsettled w n v (λ z. omega arith)
+      by-state (spoiled f g e s o) = commit-unsettled w n v f
+  step (recover n v) = recover-step accept l₀ ok₀ l b t n v

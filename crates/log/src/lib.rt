@@ -14,7 +14,7 @@ ghost use lib.Dec.{leb};
 ghost use Rattle.wire.specs.Bytes.{pick};
 ghost use Rattle.redo.specs.Image.{headOk, home as homeOf, inRange, imageLength};
 ghost use Rattle.redo.specs.Entry.{changes, Loggable};
-ghost use Rattle.redo.specs.Stores.{formatStores, commitStores};
+ghost use Rattle.redo.specs.Stores.{formatStores, clearMark, commitStores};
 ghost use Rattle.log.specs.Head.{headOf};
 ghost use Rattle.log.specs.Calls.{answer, after, store, formatPlan, recoverPlan, committedPlan, commitPlan, clearPlan, anyBytes};
 
@@ -25,14 +25,15 @@ pub enum Outcome {
     Refused(u8),
 }
 
-// What an image's head says: refused with 1 or 2, mark 0, or mark 165.
+// What an image's head says: refused with 1, mark 0, mark 165, or spoiled: any other mark, which a store cut halfway can have left.
 pub enum Head {
-    Bad(u8),
+    Bad,
     Clear,
     Committed,
+    Spoiled,
 }
 
-// Looks at the head, which every image call but format does first. With mark 165 all but recover are refused with 3.
+// Looks at the head, which every image call but format does first. With any mark but 0 all but recover are refused with 3.
 pub fn read_head(image: &[u8]) -> Head
     ensures { λ r. ⌜ r ≡ headOf (now (image .entry)) ⌝ }
 {
@@ -41,10 +42,10 @@ pub fn read_head(image: &[u8]) -> Head
         match mark {
             0 => Head::Clear,
             165 => Head::Committed,
-            _ => Head::Bad(2),
+            _ => Head::Spoiled,
         }
     } else {
-        Head::Bad(1)
+        Head::Bad
     }
 }
 
@@ -127,16 +128,28 @@ fn recover_committed(image: &mut [u8], n: usize) -> Outcome
     }
 }
 
-// Finishes a commit that was cut after its mark was stored; with the mark clear there is nothing to do.
+// With a spoiled mark: stores 0 over it, whatever count, log and home hold.
+fn recover_spoiled(image: &mut [u8], n: usize) -> Outcome
+    requires { ⌜ headOk (now image) ≡ true ⌝ }
+    ensures { λ r. ⌜ r ≡ answer (store clearMark) n ⌝ }
+    ensures { λ _. ⌜ now (image .exit) ≡ after (store clearMark) n (now (image .entry)) ⌝ }
+{
+    let clear = [0u8; 1];
+    let made = meter::write_at(image, 10, &clear, n);
+    report(1, n, made)
+}
+
+// Finishes a commit that was cut after its mark was stored, or clears a spoiled mark; with the mark clear there is nothing to do.
 pub fn recover(image: &mut [u8], n: usize) -> Outcome
     ensures { λ r. ⌜ r ≡ answer (recoverPlan (now (image .entry))) n ⌝ }
     ensures { λ _. ⌜ now (image .exit) ≡ after (recoverPlan (now (image .entry))) n (now (image .entry)) ⌝ }
 {
     let head = read_head(image);
     match head {
-        Head::Bad(r) => Outcome::Refused(r),
+        Head::Bad => Outcome::Refused(1),
         Head::Clear => Outcome::Done(0),
         Head::Committed => recover_committed(image, n),
+        Head::Spoiled => recover_spoiled(image, n),
     }
 }
 
@@ -188,8 +201,9 @@ pub fn commit(image: &mut [u8], space: &[u8], n: usize) -> Outcome
 {
     let head = read_head(image);
     match head {
-        Head::Bad(r) => Outcome::Refused(r),
+        Head::Bad => Outcome::Refused(1),
         Head::Clear => commit_clear(image, space, n),
         Head::Committed => Outcome::Refused(3),
+        Head::Spoiled => Outcome::Refused(3),
     }
 }

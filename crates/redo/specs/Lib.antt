@@ -1,5 +1,6 @@
 pub mod Store
 pub mod StoreLaws
+pub mod Torn
 pub mod Image
 pub mod ImageLaws
 pub mod Entry

@@ -17,3 +17,8 @@ apply (s ∷ ss) l = apply ss (set l (s .at) (s .byte))
 unfoldable pub run : ℕ → List ℕ → List Store
 run a [] = []
 run a (b ∷ bs) = record { at = a; byte = b } ∷ run (suc a) bs
+
+-- "the byte its next store was meant for may hold any value": where stores were left out, v stands where the first of them was to go
+unfoldable pub halfway : List Store → ℕ → List ℕ → List ℕ
+halfway [] v l = l
+halfway (s ∷ ss) v l = set l (s .at) v

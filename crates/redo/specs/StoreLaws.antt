@@ -1,13 +1,12 @@
--- Laws of stores: cuts, runs, bytes that no store goes to, and doing stores again.
+-- Laws of stores: cuts, runs, and bytes that no store goes to.
 use mathlib.Core.Path.{_≡_, refl, sym, ap, subst, _∙_}
 use mathlib.Core.Logic.{_≢_}
 use Prim.Native.Nat.{ℕ, zero, suc, _+_, _-_, _≤_, _<_}
-use native.Mathlib.Decide.{ℕ-discrete}
 use native.Mathlib.Nat.{zero-sub, sub-zero, suc-sub-suc, add-zero, add-suc, suc-add}
 use native.Mathlib.Omega.{arith}
 use mathlib.Core.List.{List, [], _∷_, _++_}
 use lib.ListN.{length, take, drop, set, getD, length-set, length-drop}
-use lib.Seq.{take-nil, set-set, set-comm, getD-set-other, ext-getD, getD-drop, drop-set-add}
+use lib.Seq.{take-nil, getD-set-other, ext-getD, getD-drop, drop-set-add}
 use Rattle.wire.specs.Bytes.{over}
 use Rattle.wire.specs.BytesLaws.{over-nil, over-cons}
 use Rattle.wire.specs.All.{All, none, more, all-map}
@@ -96,34 +95,3 @@ pub drop-kept : (h : ℕ) {ss : List Store} (l : List ℕ) → Go (λ a. a < h) 
 drop-kept h {ss} l a =
     ext-getD 0 (drop h (apply ss l)) (drop h l) (rw (length-drop, length-drop, length-apply))
     (λ i g. getD-drop h (apply ss l) i 0 ∙ kept (λ a. a < h) l (h + i) a (λ e. omega arith) ∙ sym (getD-drop h l i 0))
-
--- ---- again
-
--- some store of ss goes to the offset i
-pub data Hits (i : ℕ) : List Store → Type 0 where
-  here : {s : Store} {ss : List Store} → s .at ≡ i → Hits i (s ∷ ss)
-  there : {s : Store} {ss : List Store} → Hits i ss → Hits i (s ∷ ss)
-
--- an earlier store to an offset that ss stores to as well is of no effect
-hit-lost : {ss : List Store} (i b : ℕ) (l : List ℕ) → Hits i ss → apply ss (set l i b) ≡ apply ss l
-unfolding apply
-hit-lost i b l (here {s = s} e) = rw (← e, set-set)
-hit-lost i b l (there {s = s} {ss = ss} h) = elim (ℕ-discrete i (s .at)) [
-  | yes e ↦ rw (e, set-set)
-  | no f ↦ rw (set-comm l i (s .at) b (s .byte) f) (hit-lost i b (set l (s .at) (s .byte)) h)
-]
-
-own : (n : ℕ) (ss : List Store) → All (λ s. Hits (s .at) ss) (take n ss)
-own zero [] = none
-own zero (s ∷ ss) = none
-own (suc n) [] = none
-own (suc n) (s ∷ ss) = more (here refl) (all-map (λ t h. there h) (own n ss))
-
-lost : {ss ts : List Store} (l : List ℕ) → All (λ s. Hits (s .at) ss) ts → apply ss (apply ts l) ≡ apply ss l
-unfolding apply
-lost l none = refl
-lost l (more {x = t} h a) = lost (set l (t .at) (t .byte)) a ∙ hit-lost (t .at) (t .byte) l h
-
--- all the stores, after any cut of them, leave what they leave from the start
-pub again : (n : ℕ) (ss : List Store) (l : List ℕ) → apply ss (apply (take n ss) l) ≡ apply ss l
-again n ss l = lost l (own n ss)

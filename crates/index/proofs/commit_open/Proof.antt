@@ -1,5 +1,5 @@
 use mathlib.Core.Path.{sym, _∙_}
-use Rattle.index.specs.CommitLaws.{commit-length, commit-spoiled, commit-passes}
+use Rattle.index.specs.CommitLaws.{commit-length, commit-unsound, commit-passes}
 use borrow.Author.Tests.{not-true, not-false, eqb-true, eqb-false}
 use lib.ListN.{length}
 use Rattle.redo.specs.Image.{home}
@@ -42,7 +42,7 @@ returns-3 : tie.Need-returns-3
 returns-3 c =
     let a = c .before .before .before .before .before .before .before .args in
     let e = eqb-true (length (a .space .now)) (length (home (a .image .now))) (sym (c .before .before .before .as-long .ensures) ∙ not-false _ (c .before .before .if1 .left)) in
-    refused-is _ 7 (a .n) (a .image .now) (commit-spoiled (a .image .now) (a .space .now) (c .before .before .before .before .before .before .before .pre) e (sym (c .before .sound .ensures) ∙ c .if2 .left))
+    refused-is _ 7 (a .n) (a .image .now) (commit-unsound (a .image .now) (a .space .now) (c .before .before .before .before .before .before .before .pre) e (sym (c .before .sound .ensures) ∙ c .if2 .left))
 
 pub commit-open-spec : {M : Type 1} → statement M
 commit-open-spec =

@@ -1,7 +1,6 @@
 use mathlib.Core.Path.{sym, _∙_}
-use mathlib.Core.List.{[]}
-use Rattle.log.specs.Calls.{recoverPlan, committedPlan, store}
-use Rattle.log.specs.Answers.{refused-is, nothing-is, at-bad, at-clear, at-committed, committed-ok}
+use Rattle.log.specs.Calls.{recoverPlan}
+use Rattle.log.specs.Answers.{refused-is, nothing-is, committed-ok, spoiled-ok}
 use borrow.Author.Needs.{needs}
 use Rattle.log.proofs.recover.Statement.{statement}
 use Rattle.log.proofs.recover.Tie as tie
@@ -9,17 +8,23 @@ use Rattle.log.proofs.recover.Tie as tie
 read-head-requires : tie.Need-read-head-requires
 read-head-requires c κs = search needs
 
-enum-known-head : tie.Need-enum-known-head
-enum-known-head c = search needs
-
 enum-told : tie.Need-enum-told
 enum-told c = search needs
 
 enum-told-2 : tie.Need-enum-told-2
 enum-told-2 c = search needs
 
+enum-told-3 : tie.Need-enum-told-3
+enum-told-3 c = search needs
+
 recover-committed-requires : tie.Need-recover-committed-requires
-recover-committed-requires c κs = committed-ok (c .before .before .before .before .before .before .args .image .now) (sym (c .before .before .before .read-head .ensures) ∙ c .before .enum-told2 .given .1)
+recover-committed-requires c κs = committed-ok (c .before .before .before .before .before .before .args .image .now) (sym (c .before .before .before .read-head .ensures) ∙ c .before .enum-told3 .given .1)
+
+enum-told-4 : tie.Need-enum-told-4
+enum-told-4 c = search needs
+
+recover-spoiled-requires : tie.Need-recover-spoiled-requires
+recover-spoiled-requires c κs = spoiled-ok (c .before .before .before .before .before .before .args .image .now) (sym (c .before .before .before .read-head .ensures) ∙ c .before .enum-told4 .given .1)
 
 same-length : tie.Need-same-length
 same-length c = search needs
@@ -27,8 +32,8 @@ same-length c = search needs
 returns : tie.Need-returns
 unfolding recoverPlan
 returns c =
-    let a = c .before .before .before .before .before .before .args in
-    refused-is _ _ (a .n) (a .image .now) (at-bad (a .image .now) _ (store []) (committedPlan (a .image .now)) (sym (c .before .before .before .read-head .ensures) ∙ c .before .head .given .1))
+    let a = c .before .before .before .before .before .args in
+    refused-is _ 1 (a .n) (a .image .now) (rw (sym (c .before .before .read-head .ensures) ∙ c .enum-told .given .1))
 
 same-length-2 : tie.Need-same-length-2
 same-length-2 c = search needs
@@ -37,7 +42,7 @@ returns-2 : tie.Need-returns-2
 unfolding recoverPlan
 returns-2 c =
     let a = c .before .before .before .before .before .args in
-    nothing-is _ (a .n) (a .image .now) (at-clear (a .image .now) (store []) (committedPlan (a .image .now)) (sym (c .before .before .read-head .ensures) ∙ c .enum-told .given .1))
+    nothing-is _ (a .n) (a .image .now) (rw (sym (c .before .before .read-head .ensures) ∙ c .enum-told2 .given .1))
 
 same-length-3 : tie.Need-same-length-3
 same-length-3 c = search needs
@@ -45,21 +50,32 @@ same-length-3 c = search needs
 returns-3 : tie.Need-returns-3
 unfolding recoverPlan
 returns-3 c =
-    let a = c .before .before .before .before .before .before .before .before .before .args in
-    rw (at-committed (a .image .now) (store []) (committedPlan (a .image .now)) (sym (c .before .before .before .before .before .before .read-head .ensures) ∙ c .before .before .before .before .enum-told2 .given .1)) (c .before .before .recover-committed .ensures)
+    rw (sym (c .before .before .before .before .before .before .read-head .ensures) ∙ c .before .before .before .before .enum-told3 .given .1) (c .before .before .recover-committed .ensures)
+
+same-length-4 : tie.Need-same-length-4
+same-length-4 c = search needs
+
+returns-4 : tie.Need-returns-4
+unfolding recoverPlan
+returns-4 c =
+    rw (sym (c .before .before .before .before .before .before .read-head .ensures) ∙ c .before .before .before .before .enum-told4 .given .1) (c .before .before .recover-spoiled .ensures)
 
 pub recover-spec : {M : Type 1} → statement M
 recover-spec =
     tie.close
     (tie.spec
     read-head-requires
-    enum-known-head
     enum-told
     enum-told-2
+    enum-told-3
     recover-committed-requires
+    enum-told-4
+    recover-spoiled-requires
     same-length
     returns
     same-length-2
     returns-2
     same-length-3
-    returns-3)
+    returns-3
+    same-length-4
+    returns-4)

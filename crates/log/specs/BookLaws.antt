@@ -1,0 +1,82 @@
+-- Laws of the book alone: its numbers, and what a recovery and a commit make of it, by where they are cut.
+use mathlib.Core.Path.{_≡_, refl}
+use mathlib.Core.Bool.{Bool}
+use Prim.Native.Nat.{ℕ, _+_, _-_, _*_, _≤_, _<_}
+use native.Mathlib.Omega.{arith}
+use mathlib.Core.List.{List}
+use lib.Dec.{leb, eqb}
+use borrow.Author.Tests.{le-leb, lt-leb, eq-eqb, ne-eqb, eqb-true}
+use Rattle.wire.specs.Cases.{by-test, by-lt, by-eq}
+use Rattle.log.specs.Book.{Book, writes, judgeBy, judge, commitNeed, needBy, recoverNeed, logs, toldMark, recovering, committing}
+
+-- ---- the book's numbers
+
+pub need-clear : (b : Book) → b .mark ≡ 0 → recoverNeed b ≡ 0
+unfolding recoverNeed needBy
+need-clear b e = rw e
+
+pub need-marked : (b : Book) → (b .mark ≡ 0 → ⊥) → recoverNeed b ≡ 64 * b .owed + 1
+unfolding recoverNeed needBy
+need-marked b f = rw (ne-eqb (b .mark) 0 f)
+
+pub no-commit : commitNeed 0 ≡ 0
+unfolding commitNeed
+no-commit = refl
+
+pub some-commit : (k : ℕ) → 0 < k → commitNeed k ≡ 130 * k + 4
+unfolding commitNeed
+some-commit k g = rw (ne-eqb k 0 (λ e. omega arith))
+
+module _ (b : Book) (n v : ℕ) where
+  pub recovering-done : recoverNeed b ≤ n → recovering b n v ≡ toldMark b 0
+  unfolding recovering
+  recovering-done g = rw (le-leb (recoverNeed b) n g)
+
+  pub recovering-last : n + 1 ≡ recoverNeed b → recovering b n v ≡ toldMark b v
+  unfolding recovering
+  recovering-last e = rw (lt-leb (recoverNeed b) n (omega arith), eq-eqb (n + 1) (recoverNeed b) e)
+
+  pub recovering-cut : n + 1 < recoverNeed b → recovering b n v ≡ b
+  unfolding recovering
+  recovering-cut g = rw (lt-leb (recoverNeed b) n (omega arith), ne-eqb (n + 1) (recoverNeed b) (λ e. omega arith))
+
+  module _ (w : List ℕ) (k : ℕ) where
+    pub committing-early : n < 66 * k + 2 → committing b w k n v ≡ b
+    unfolding committing
+    committing-early g = rw (lt-leb (66 * k + 3) n (omega arith), ne-eqb n (66 * k + 2) (λ e. omega arith))
+
+    pub committing-mark : n ≡ 66 * k + 2 → committing b w k n v ≡ toldMark (logs b w k) v
+    unfolding committing
+    committing-mark e = rw (lt-leb (66 * k + 3) n (omega arith), eq-eqb n (66 * k + 2) e)
+
+    pub committing-late : 66 * k + 3 ≤ n → committing b w k n v ≡ recovering (toldMark (logs b w k) 165) (n - (66 * k + 3)) v
+    unfolding committing
+    committing-late g = rw (le-leb (66 * k + 3) n g)
+
+-- ---- cases
+
+-- what holds of the book with the mark told as 0 or as v, and of the book, holds after a recovery
+pub by-recovering : (P : Book → Type 0) (b : Book) (n v : ℕ) → P (toldMark b 0) → P (toldMark b v) → P b → P (recovering b n v)
+unfolding recovering
+by-recovering P b n v p q r = by-test (leb (recoverNeed b) n)
+    (λ e. rw e p)
+    (λ e. by-test (eqb (n + 1) (recoverNeed b)) (λ f. rw (e, f) q) (λ f. rw (e, f) r))
+
+-- a case of where a commit is cut
+pub by-committing : (P : Book → Type 0) (b : Book) (w : List ℕ) (k n v : ℕ)
+    → (n < 66 * k + 2 → P b)
+    → (n ≡ 66 * k + 2 → P (toldMark (logs b w k) v))
+    → (66 * k + 3 ≤ n → P (recovering (toldMark (logs b w k) 165) (n - (66 * k + 3)) v))
+    → P (committing b w k n v)
+by-committing P b w k n v p q r = by-lt n (66 * k + 2)
+    (λ g. rw (committing-early b n v w k g) (p g))
+    (λ g. by-eq n (66 * k + 2)
+    (λ e. rw (committing-mark b n v w k e) (q e))
+    (λ e. rw (committing-late b n v w k (omega arith)) (r (omega arith))))
+
+-- a commit is not refused only with mark 0
+pub writes-clear : (accept : List ℕ → Bool) (L : ℕ) (b : Book) (w : List ℕ) (k : ℕ) → judge accept L b w ≡ writes k → b .mark ≡ 0
+unfolding judge judgeBy
+writes-clear accept L b w k e = by-test (eqb (b .mark) 0)
+    (λ t. eqb-true (b .mark) 0 t)
+    (λ f. let z : _≡_ {A = ℕ} 0 1 = cc in absurd (omega arith))
