@@ -159,6 +159,21 @@ static void cuts(void) {
     check("bytes", memcmp(image + CIX_PLACE(shown), "\1\0\0\0\144\0\11", 8), 0, __LINE__);
 }
 
+/* A commit cut in the middle of its mark, which then holds neither 0 nor 165. */
+static void spoiled_mark(void) {
+    DONE(cix_format(IMAGE, ENTRIES, PAGES, CIX_ALL), sizeof image + 1);
+    DONE(cix_begin(IMAGE, SPACE), 0);
+    DONE(cix_put(SPACE, 7, 1, 100, 9, 0), 1);
+    CUT(cix_commit(IMAGE, SPACE, 200), 200);
+    image[10] = 9;
+    REFUSED(cix_count_image(IMAGE, 7), CIX_UNRECOVERED);
+    REFUSED(cix_begin(IMAGE, SPACE), CIX_UNRECOVERED);
+    REFUSED(cix_commit(IMAGE, SPACE, CIX_ALL), CIX_UNRECOVERED);
+    CUT(cix_recover(IMAGE, 0), 0);
+    DONE(cix_recover(IMAGE, CIX_ALL), 1);
+    DONE(cix_count_image(IMAGE, 7), 0);
+}
+
 int main(void) {
     no_bytes();
     DONE(cix_format(IMAGE, ENTRIES, PAGES, CIX_ALL), sizeof image + 1);
@@ -168,6 +183,7 @@ int main(void) {
     blocks();
     merges();
     cuts();
+    spoiled_mark();
     printf("C: %d checks, %d failed\n", checked, failed);
     return failed != 0;
 }

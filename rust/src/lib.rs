@@ -4,9 +4,9 @@
 //! For each tag the index keeps the calls on record in order: by level, then second, then phone. It
 //! lives on an *image*, a buffer of [`image_bytes`] that the caller keeps. Edits are made on a
 //! *workspace*, a buffer of [`space_bytes`], and reach the image by [`commit`], through a log, so
-//! that a power cut at any store leaves the old index or the new one. Nothing is kept between calls
-//! and nothing is allocated. The bytes may be anything: what is not right is refused, and a refused
-//! call changes no byte.
+//! that a power cut at any store, or in the middle of a byte, leaves the old index or the new one.
+//! Nothing is kept between calls and nothing is allocated. The bytes may be anything: what is not
+//! right is refused, and a refused call changes no byte.
 //!
 //! ```
 //! use cix::{Record, Stored};
@@ -65,6 +65,7 @@ pub fn records(bytes: &[u8]) -> impl Iterator<Item = Record> + '_ {
 #[derive(Clone, Copy, Debug, PartialEq, Eq)]
 pub enum Refusal {
     BadHead = 1,
+    /// No longer given.
     BadMark = 2,
     Unrecovered = 3,
     BadLog = 4,
@@ -83,8 +84,8 @@ pub enum Refusal {
 
 const REFUSALS: [(Refusal, &str); 15] = [
     (Refusal::BadHead, "the image's head or length is not right"),
-    (Refusal::BadMark, "the image's mark is neither 0 nor 165"),
-    (Refusal::Unrecovered, "a commit was cut: recover first"),
+    (Refusal::BadMark, "no longer given"),
+    (Refusal::Unrecovered, "the image's mark is not 0: recover first"),
     (Refusal::BadLog, "the log's count or page numbers are not right"),
     (Refusal::UnsoundHome, "the image's home is not sound"),
     (Refusal::SpaceLength, "the workspace has the wrong length"),
@@ -207,7 +208,21 @@ pub fn commit(image: &mut [u8], space: &[u8], stores: u32) -> Result<Stored> {
     })
 }
 
-/// Finishes a commit that was cut; stores nothing where none was. It may be cut itself.
+/// Finishes a commit that was cut after its mark was stored, and clears a mark that a cut store left
+/// neither 0 nor 165; stores nothing where the mark is 0. It may be cut itself.
+///
+/// ```
+/// use cix::{Refusal, Stored};
+///
+/// let mut image = vec![0; cix::image_bytes(28, 2)];
+/// let mut space = vec![0; cix::space_bytes(2)];
+/// cix::format(&mut image, 28, 2, cix::ALL)?;
+/// image[10] = 9; // the mark, caught halfway
+/// assert_eq!(cix::begin(&image, &mut space), Err(Refusal::Unrecovered));
+/// assert_eq!(cix::recover(&mut image, cix::ALL), Ok(Stored::Done(1)));
+/// assert_eq!(cix::begin(&image, &mut space), Ok(()));
+/// # Ok::<(), Refusal>(())
+/// ```
 pub fn recover(image: &mut [u8], stores: u32) -> Result<Stored> {
     stored(unsafe { ffi::cix_recover(image.as_mut_ptr(), image.len(), stores) })
 }

@@ -8,7 +8,7 @@ const PAGES: u32 = 64;
 /// All answers to an input. A line ends at a newline byte, not counted, or at the input's end.
 pub fn answers(input: &[u8]) -> Vec<u8> {
     let mut image = vec![0; cix::image_bytes(ENTRIES, PAGES)];
-    model::format(&mut image, ENTRIES, PAGES, u32::MAX).unwrap();
+    model::format(&image, ENTRIES, PAGES).unwrap().make(&mut image, u32::MAX);
     let mut text = String::new();
     for line in input.split_inclusive(|&b| b == b'\n') {
         let line = line.strip_suffix(b"\n").unwrap_or(line);
@@ -52,7 +52,7 @@ fn edit(image: &mut [u8], f: impl Fn(&mut [u8]) -> Counted) -> Result<String, u8
     let mut space = vec![0; cix::space_bytes(PAGES)];
     model::begin(image, &mut space)?;
     f(&mut space)?;
-    model::commit(image, &space, u32::MAX)?;
+    model::commit(image, &space)?.make(image, u32::MAX);
     Ok("ok\n".into())
 }
 

@@ -324,7 +324,7 @@ pub fn drop_tag(space: &mut [u8], tag: u32) -> Counted {
 
 // ---- the image
 
-const MARKED: u8 = 165;
+pub const MARKED: u8 = 165;
 
 /// The log capacity and record pages of a right head.
 fn head(image: &[u8]) -> Result<(usize, usize), u8> {
@@ -334,9 +334,6 @@ fn head(image: &[u8]) -> Result<(usize, usize), u8> {
     let (entries, pages) = (two(image, 4), two(image, 6));
     if !sizes(entries, pages) || image.len() != length(entries, pages) {
         return Err(1);
-    }
-    if image[10] != 0 && image[10] != MARKED {
-        return Err(2);
     }
     Ok((entries, pages))
 }
@@ -354,9 +351,10 @@ pub fn home_at(image: &[u8]) -> usize {
     64 + 66 * two(image, 4)
 }
 
+/// The home of an image with mark 0.
 fn image_home(image: &[u8]) -> Result<Home, u8> {
     head(image)?;
-    if image[10] == MARKED {
+    if image[10] != 0 {
         return Err(3);
     }
     Home::read(&image[home_at(image)..]).ok_or(5)
@@ -424,28 +422,36 @@ pub fn begin(image: &[u8], space: &mut [u8]) -> Result<(), u8> {
     Ok(())
 }
 
-// ---- calls that store
+// ---- calls that store: their stores, or the refusal
 
 /// Whether the whole was done, and the stores made.
 pub type Stored = Result<(bool, u32), u8>;
 
-struct Stores(Vec<(usize, u8)>);
+/// Offsets, and what is stored there.
+#[derive(Default)]
+pub struct Stores(Vec<(usize, u8)>);
 
 impl Stores {
     fn run(&mut self, at: usize, bytes: &[u8]) {
         self.0.extend(bytes.iter().enumerate().map(|(i, &b)| (at + i, b)));
     }
 
-    fn make(self, image: &mut [u8], allowed: u32) -> Stored {
+    /// Makes as many as are allowed: whether that is all, and how many.
+    pub fn make(&self, image: &mut [u8], allowed: u32) -> (bool, u32) {
         let n = self.0.len().min(allowed as usize);
         for &(at, b) in &self.0[..n] {
             image[at] = b;
         }
-        Ok((self.0.len() <= allowed as usize, n as u32))
+        (self.0.len() <= allowed as usize, n as u32)
+    }
+
+    /// The next one, if the allowance cuts them.
+    pub fn next(&self, allowed: u32) -> Option<(usize, u8)> {
+        self.0.get(allowed as usize).copied()
     }
 }
 
-pub fn format(image: &mut [u8], entries: u32, pages: u32, allowed: u32) -> Stored {
+pub fn format(image: &[u8], entries: u32, pages: u32) -> Result<Stores, u8> {
     let (l, r) = (entries as usize, pages as usize);
     if !sizes(l, r) || image.len() != length(l, r) {
         return Err(14);
@@ -454,14 +460,14 @@ pub fn format(image: &mut [u8], entries: u32, pages: u32, allowed: u32) -> Store
     empty[..4].copy_from_slice(b"CIX1");
     empty[4..6].copy_from_slice(&(l as u16).to_be_bytes());
     empty[6..8].copy_from_slice(&(r as u16).to_be_bytes());
-    let mut s = Stores(Vec::new());
+    let mut s = Stores::default();
     s.run(0, &[0]);
     s.run(1, &empty[1..]);
     s.run(0, &empty[..1]);
-    s.make(image, allowed)
+    Ok(s)
 }
 
-pub fn commit(image: &mut [u8], space: &[u8], allowed: u32) -> Stored {
+pub fn commit(image: &[u8], space: &[u8]) -> Result<Stores, u8> {
     image_home(image)?;
     let (entries, pages) = head(image)?;
     if space.len() != 64 * (26 + pages) {
@@ -476,7 +482,7 @@ pub fn commit(image: &mut [u8], space: &[u8], allowed: u32) -> Stored {
     if k > entries {
         return Err(13);
     }
-    let mut s = Stores(Vec::new());
+    let mut s = Stores::default();
     for (j, &p) in changed.iter().enumerate() {
         s.run(64 + 66 * j, &(p as u16).to_be_bytes());
         s.run(66 + 66 * j, &page(space, p));
@@ -491,12 +497,13 @@ pub fn commit(image: &mut [u8], space: &[u8], allowed: u32) -> Stored {
         assert_eq!(s.0.len(), 130 * k + 4);
         assert_eq!(s.0[66 * k + 2], (10, MARKED));
     }
-    s.make(image, allowed)
+    Ok(s)
 }
 
-pub fn recover(image: &mut [u8], allowed: u32) -> Stored {
+/// With mark 165 the log's pages and mark 0; with any other mark but 0 only mark 0.
+pub fn recover(image: &[u8]) -> Result<Stores, u8> {
     let (entries, pages) = head(image)?;
-    let mut s = Stores(Vec::new());
+    let mut s = Stores::default();
     if image[10] == MARKED {
         let k = two(image, 8);
         if k == 0 || k > entries {
@@ -509,7 +516,9 @@ pub fn recover(image: &mut [u8], allowed: u32) -> Stored {
         for (j, p) in numbers.iter().enumerate() {
             s.run(home_at(image) + 64 * p, &image[66 + 66 * j..130 + 66 * j]);
         }
+    }
+    if image[10] != 0 {
         s.run(10, &[0]);
     }
-    s.make(image, allowed)
+    Ok(s)
 }

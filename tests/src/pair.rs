@@ -1,5 +1,6 @@
 //! An image and a workspace on which each call is made twice, by the library and by the model.
-use crate::model::{self, Merge, Of, Rec};
+use crate::book::Book;
+use crate::model::{self, Merge, Of, Rec, Stores};
 use crate::random::Random;
 use crate::Tally;
 use cix::{Record, Refusal, Stored};
@@ -8,6 +9,16 @@ use cix::{Record, Refusal, Stored};
 pub struct Pair {
     pub image: Vec<u8>,
     pub space: Vec<u8>,
+    /// Foretells commits and recoveries from where it was opened.
+    pub book: Option<Book>,
+}
+
+/// What the byte caught holds: the byte that the next store of a cut call was meant for.
+#[derive(Clone, Copy)]
+pub enum Told {
+    Stood,
+    Meant,
+    Value(u8),
 }
 
 fn record(r: Rec) -> Record {
@@ -42,7 +53,8 @@ impl Pair {
     /// An image and a workspace with any bytes.
     pub fn blank(rng: &mut Random, entries: u32, pages: u32) -> Pair {
         let mut bytes = |n: usize| (0..n).map(|_| rng.next() as u8).collect();
-        Pair { image: bytes(cix::image_bytes(entries, pages)), space: bytes(cix::space_bytes(pages)) }
+        let (image, space) = (bytes(cix::image_bytes(entries, pages)), bytes(cix::space_bytes(pages)));
+        Pair { image, space, book: None }
     }
 
     pub fn formatted(entries: u32, pages: u32, tally: &mut Tally) -> Pair {
@@ -55,11 +67,17 @@ impl Pair {
         &self.image[model::home_at(&self.image)..]
     }
 
+    /// Opens the book on a sound image with mark 0.
+    pub fn open_book(&mut self) {
+        let entries = u16::from_be_bytes([self.image[4], self.image[5]]);
+        self.book = Some(Book::new(entries as usize, self.home()));
+    }
+
     pub fn format(&mut self, entries: u32, pages: u32, stores: u32, tally: &mut Tally) {
-        let mut image = self.image.clone();
-        let m = model::format(&mut image, entries, pages, stores);
-        tally.same("format", stored(cix::format(&mut self.image, entries, pages, stores)), m);
-        same_bytes("format", &self.image, &image);
+        let before = self.image.clone();
+        let l = stored(cix::format(&mut self.image, entries, pages, stores));
+        let m = model::format(&before, entries, pages);
+        self.same_stores("format", before, l, &m, stores, tally);
     }
 
     pub fn begin(&mut self, tally: &mut Tally) {
@@ -104,18 +122,54 @@ impl Pair {
         self.edit("drop", tally, |s| cix::drop_tag(s, tag), |s| model::drop_tag(s, tag));
     }
 
-    pub fn commit(&mut self, stores: u32, tally: &mut Tally) {
-        let mut image = self.image.clone();
-        let m = model::commit(&mut image, &self.space, stores);
-        tally.same("commit", stored(cix::commit(&mut self.image, &self.space, stores)), m);
-        same_bytes("commit", &self.image, &image);
+    pub fn commit(&mut self, stores: u32, told: Told, tally: &mut Tally) {
+        let before = self.image.clone();
+        let l = stored(cix::commit(&mut self.image, &self.space, stores));
+        let m = model::commit(&before, &self.space);
+        self.same_stores("commit", before, l, &m, stores, tally);
+        let told = self.catch(&m, stores, told);
+        if let Some(book) = &mut self.book {
+            let foretold = book.commit(&self.space, stores, told);
+            assert_eq!(l, foretold, "commit: the library's answer, the book's");
+        }
     }
 
-    pub fn recover(&mut self, stores: u32, tally: &mut Tally) {
-        let mut image = self.image.clone();
-        let m = model::recover(&mut image, stores);
-        tally.same("recover", stored(cix::recover(&mut self.image, stores)), m);
-        same_bytes("recover", &self.image, &image);
+    pub fn recover(&mut self, stores: u32, told: Told, tally: &mut Tally) {
+        let before = self.image.clone();
+        let l = stored(cix::recover(&mut self.image, stores));
+        let m = model::recover(&before);
+        self.same_stores("recover", before, l, &m, stores, tally);
+        let told = self.catch(&m, stores, told);
+        if let Some(book) = &mut self.book {
+            let foretold = book.recover(stores, told);
+            assert_eq!(l, foretold, "recover: the library's answer, the book's");
+        }
+    }
+
+    /// Compares a call that stores with the model's stores, made on the bytes from before it.
+    fn same_stores(
+        &self,
+        call: &str,
+        mut before: Vec<u8>,
+        library: model::Stored,
+        model: &Result<Stores, u8>,
+        stores: u32,
+        tally: &mut Tally,
+    ) {
+        let made = model.as_ref().map(|s| s.make(&mut before, stores)).map_err(|&n| n);
+        tally.same(call, library, made);
+        same_bytes(call, &self.image, &before);
+    }
+
+    /// Writes the byte caught, if there is one, and answers what it holds.
+    fn catch(&mut self, model: &Result<Stores, u8>, stores: u32, told: Told) -> u8 {
+        let Some((at, meant)) = model.as_ref().ok().and_then(|s| s.next(stores)) else { return 0 };
+        match told {
+            Told::Stood => {}
+            Told::Meant => self.image[at] = meant,
+            Told::Value(v) => self.image[at] = v,
+        }
+        self.image[at]
     }
 
     fn bytes(&self, of: Of) -> &[u8] {

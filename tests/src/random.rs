@@ -1,6 +1,6 @@
 //! Random choices from a seed.
-use crate::model::{Of, Rec};
-use crate::pair::Pair;
+use crate::model::{Of, Rec, MARKED};
+use crate::pair::{Pair, Told};
 
 pub struct Random(u64);
 
@@ -57,6 +57,17 @@ impl Random {
             0 => 0,
             1 => u32::MAX,
             _ => self.below(n),
+        }
+    }
+
+    /// What a byte caught holds: often the marks, or what stood there.
+    pub fn told(&mut self) -> Told {
+        match self.below(8) {
+            0 => Told::Value(0),
+            1 => Told::Value(MARKED),
+            2..=4 => Told::Stood,
+            5 => Told::Meant,
+            _ => Told::Value(self.next() as u8),
         }
     }
 
