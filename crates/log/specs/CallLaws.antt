@@ -29,11 +29,6 @@ unfixed : (a : ℕ) → ((8 ≤ a) × (a < 11)) ⊎ (64 ≤ a) → Fixed a → �
 unfixed a (inl g) f = ⊎-elim (λ h. omega arith) (λ h. omega arith) f
 unfixed a (inr g) f = ⊎-elim (λ h. omega arith) (λ h. omega arith) f
 
-pub spare-recover : (h : ℕ) (es : List Entry) → 64 ≤ h → Go (λ a. Fixed a → ⊥) (recoverStores h es)
-unfolding recoverStores clearMark run
-spare-recover h es g =
-    all-append (all-map (λ s r. unfixed (s .at) (inr (omega arith))) (go-replay h es)) (more (unfixed 10 (inl (omega arith))) none)
-
 -- a commit's log stores are all but the last, and the mark's
 unmarked : List Entry → List Store
 unmarked es = logged 0 es ++ run 8 (bytes16 (length es))

@@ -72,32 +72,31 @@ pub record Ready (accept : List ℕ → Bool) (l₀ x : List ℕ) (b : Book) : T
   pub stands : home x ≡ b .kept
   pub log : Logged x (b .logged) (b .loggedPages)
 
-module _ (accept : List ℕ → Bool) (l₀ : List ℕ) (ok₀ : headOk l₀ ≡ true) where
-  pub moved : {x y : List ℕ} {b c : Book} → x ≡ y → b ≡ c → Holds accept l₀ y c → Holds accept l₀ x b
-  moved e f h = rw (e, f) h
+pub moved : {accept : List ℕ → Bool} {l₀ x y : List ℕ} {b c : Book} → x ≡ y → b ≡ c → Holds accept l₀ y c → Holds accept l₀ x b
+moved e f h = rw (e, f) h
 
-  -- with any value in the mark: 0 settles what is kept, 165 owes what was last logged
-  told-state : (x : List ℕ) (b : Book) → Ready accept l₀ x b → (v : ℕ) → State (set x 10 v) (toldMark b v)
-  unfolding toldMark
-  told-state x b r v = by-eq v 165
-      (λ e. rw (eq-eqb v 165 e) (owing e refl refl (remark-logged x v (r .log))))
-      (λ f. rw (ne-eqb v 165 f) (by-eq v 0
-      (λ z. settled z refl (remark-home x v ∙ r .stands))
-      (λ z. spoiled z f refl (remark-home x v ∙ r .stands) (remark-logged x v (r .log)))))
+-- with any value in the mark: 0 settles what is kept, 165 owes what was last logged
+told-state : {accept : List ℕ → Bool} {l₀ : List ℕ} (x : List ℕ) (b : Book) → Ready accept l₀ x b → (v : ℕ) → State (set x 10 v) (toldMark b v)
+unfolding toldMark
+told-state x b r v = by-eq v 165
+    (λ e. rw (eq-eqb v 165 e) (owing e refl refl (remark-logged x v (r .log))))
+    (λ f. rw (ne-eqb v 165 f) (by-eq v 0
+    (λ z. settled z refl (remark-home x v ∙ r .stands))
+    (λ z. spoiled z f refl (remark-home x v ∙ r .stands) (remark-logged x v (r .log)))))
 
-  pub told-fits : (b : Book) (v : ℕ) → Fits accept l₀ b → Fits accept l₀ (toldMark b v)
-  unfolding toldMark
-  told-fits b v f = by-test (eqb v 165)
-      (λ e. rw e (record { fine = f .fineLogged; long = f .longLogged; fineLogged = f .fineLogged; longLogged = f .longLogged }))
-      (λ e. rw e (record { fine = f .fine; long = f .long; fineLogged = f .fineLogged; longLogged = f .longLogged }))
+pub told-fits : {accept : List ℕ → Bool} {l₀ : List ℕ} (b : Book) (v : ℕ) → Fits accept l₀ b → Fits accept l₀ (toldMark b v)
+unfolding toldMark
+told-fits b v f = by-test (eqb v 165)
+    (λ e. rw e (record { fine = f .fineLogged; long = f .longLogged; fineLogged = f .fineLogged; longLogged = f .longLogged }))
+    (λ e. rw e (record { fine = f .fine; long = f .long; fineLogged = f .fineLogged; longLogged = f .longLogged }))
 
-  pub tell : (x : List ℕ) (b : Book) → Ready accept l₀ x b → (v : ℕ) → Holds accept l₀ (set x 10 v) (toldMark b v)
-  unfolding toldMark
-  tell x b r v =
-      let right = head-right x (head-same (r .head) ∙ ok₀) in
-      record {
-        head = same-trans (r .head) (remark-head x v);
-        fits = told-fits b v (r .fits);
-        marks = remark-mark x v (omega arith);
-        state = told-state x b r v;
-      }
+pub tell : (accept : List ℕ → Bool) (l₀ : List ℕ) → headOk l₀ ≡ true → (x : List ℕ) (b : Book) → Ready accept l₀ x b → (v : ℕ) → Holds accept l₀ (set x 10 v) (toldMark b v)
+unfolding toldMark
+tell accept l₀ ok x b r v =
+    let right = head-right x (head-same (r .head) ∙ ok) in
+    record {
+      head = same-trans (r .head) (remark-head x v);
+      fits = told-fits b v (r .fits);
+      marks = remark-mark x v (omega arith);
+      state = told-state x b r v;
+    }

@@ -56,10 +56,10 @@ module _ (accept : List ℕ → Bool) (l₀ : List ℕ) (ok₀ : headOk l₀ ≡
         stores = [];
         plan = plan;
         need = sym need;
-        goes = moved accept l₀ ok₀ (ap (λ (p : Plan). caught p n v l) plan ∙ caught-is [] n v l ∙ apply-none l) (recovering-done b n v (omega arith))
+        goes = moved (ap (λ (p : Plan). caught p n v l) plan ∙ caught-is [] n v l ∙ apply-none l) (recovering-done b n v (omega arith))
             (record {
               head = t .head;
-              fits = told-fits accept l₀ ok₀ b 0 (t .fits);
+              fits = told-fits b 0 (t .fits);
               marks = t .marks ∙ m;
               state = settled refl refl s;
             });
@@ -96,7 +96,7 @@ module _ (accept : List ℕ → Bool) (l₀ : List ℕ) (ok₀ : headOk l₀ ≡
           need = omega arith;
           goes = by-lt n (64 * b .owed)
               -- cut before the last store, it owes the same
-              (λ g. moved accept l₀ ok₀ is (recovering-cut b n v (omega arith)) (record {
+              (λ g. moved is (recovering-cut b n v (omega arith)) (record {
                 head = same-trans (t .head) (recover-head l (b .logged) (b .loggedPages) ok o n v);
                 fits = t .fits;
                 marks = recover-marked l (homeAt l) (logOf l) n v (omega arith) es (omega arith) ∙ t .marks;
@@ -104,9 +104,9 @@ module _ (accept : List ℕ → Bool) (l₀ : List ℕ) (ok₀ : headOk l₀ ≡
               }))
               (λ g. by-eq n (64 * b .owed)
               -- at it
-              (λ z. moved accept l₀ ok₀ (is ∙ recover-last l (homeAt l) (logOf l) n v (omega arith) es) (recovering-last b n v (omega arith)) (tell accept l₀ ok₀ (apply replays l) b ready-done v))
+              (λ z. moved (is ∙ recover-last l (homeAt l) (logOf l) n v (omega arith) es) (recovering-last b n v (omega arith)) (tell accept l₀ ok₀ (apply replays l) b ready-done v))
               -- done
-              (λ z. moved accept l₀ ok₀ (is ∙ ap (λ (ss : List Store). apply ss l) (torn-all n v replays (omega arith)) ∙ sym (recover-zero l (homeAt l) (logOf l)))
+              (λ z. moved (is ∙ ap (λ (ss : List Store). apply ss l) (torn-all n v replays (omega arith)) ∙ sym (recover-zero l (homeAt l) (logOf l)))
               (recovering-done b n v (omega arith)) (tell accept l₀ ok₀ (apply replays l) b ready-done 0)));
         }
 
@@ -122,8 +122,8 @@ module _ (accept : List ℕ → Bool) (l₀ : List ℕ) (ok₀ : headOk l₀ ≡
         plan = plan;
         need = omega arith;
         goes = by-eq n 0
-            (λ z. moved accept l₀ ok₀ (is ∙ ap (λ (j : ℕ). apply (torn j v clearMark) l) z) (recovering-last b n v (omega arith)) (tell accept l₀ ok₀ l b ready v))
-            (λ z. moved accept l₀ ok₀ (is ∙ ap (λ (ss : List Store). apply ss l) (torn-all n v clearMark (omega arith)))
+            (λ z. moved (is ∙ ap (λ (j : ℕ). apply (torn j v clearMark) l) z) (recovering-last b n v (omega arith)) (tell accept l₀ ok₀ l b ready v))
+            (λ z. moved (is ∙ ap (λ (ss : List Store). apply ss l) (torn-all n v clearMark (omega arith)))
             (recovering-done b n v (omega arith)) (tell accept l₀ ok₀ l b ready 0));
       }
 
@@ -182,7 +182,7 @@ module _ (accept : List ℕ → Bool) (l₀ : List ℕ) (ok₀ : headOk l₀ ≡
         let both = told-store (commitPlan accept l w) [] 0 n v l empty refl in
         record {
           same = rw (verdict, none, no-commit) (λ i. record { answered = both .0 i; image = both .1 i });
-          goes-on = rw (verdict, none) (moved accept l₀ ok₀ (ap (λ (p : Plan). caught p n v l) empty ∙ caught-is [] n v l ∙ apply-none l) refl t);
+          goes-on = rw (verdict, none) (moved (ap (λ (p : Plan). caught p n v l) empty ∙ caught-is [] n v l ∙ apply-none l) refl t);
         }
 
     -- of some pages
@@ -230,7 +230,7 @@ module _ (accept : List ℕ → Bool) (l₀ : List ℕ) (ok₀ : headOk l₀ ≡
           let x : List ℕ = apply logging l in
           let j : ℕ = n - (66 * k + 3) in
           let c : Book = toldMark (logs b w k) 165 in
-          let h : Holds accept l₀ x c = moved accept l₀ ok₀ (sym (log-mark-same l es)) refl (tell accept l₀ ok₀ x (logs b w k) commit-ready 165) in
+          let h : Holds accept l₀ x c = moved (sym (log-mark-same l es)) refl (tell accept l₀ ok₀ x (logs b w k) commit-ready 165) in
           let kept = commit-head l w okay same fit in
           let okx : headOk x ≡ true = head-same kept ∙ okay in
           let log : Logged x w k = commit-logged l w okay same fit some in
@@ -243,16 +243,16 @@ module _ (accept : List ℕ → Bool) (l₀ : List ℕ) (ok₀ : headOk l₀ ≡
           ∙ ap₂ (λ (i : ℕ) (fs : List Entry). apply (torn j v (recoverStores (64 + 66 * i) fs)) x) (sym (capacity-same kept)) (sym (commit-log l w okay same fit))
           ∙ sym (caught-is (recoverStores (homeAt x) (logOf x)) j v x)
           ∙ sym (ap (λ (p : Plan). caught p j v x) plan) in
-          moved accept l₀ ok₀ is refl (recover-goes accept l₀ ok₀ x c h j v)
+          moved is refl (recover-goes accept l₀ ok₀ x c h j v)
 
       commit-goes : commitPlan accept l w ≡ store stored → Holds accept l₀ (caught (commitPlan accept l w) n v l) (committing b w k n v)
       unfolding stored logging k
       commit-goes plan =
           let is : caught (commitPlan accept l w) n v l ≡ apply (torn n v stored) l = ap (λ (p : Plan). caught p n v l) plan ∙ caught-is stored n v l in
           by-committing (Holds accept l₀ (caught (commitPlan accept l w) n v l)) b w k n v
-          (λ g. moved accept l₀ ok₀ (is ∙ cut (omega arith)) refl (commit-before g))
-          (λ z. moved accept l₀ ok₀ (is ∙ cut (omega arith) ∙ log-last (long-changes l w okay same fit) l n v z) refl (tell accept l₀ ok₀ (apply logging l) (logs b w k) commit-ready v))
-          (λ g. moved accept l₀ ok₀ is refl (commit-behind g))
+          (λ g. moved (is ∙ cut (omega arith)) refl (commit-before g))
+          (λ z. moved (is ∙ cut (omega arith) ∙ log-last (long-changes l w okay same fit) l n v z) refl (tell accept l₀ ok₀ (apply logging l) (logs b w k) commit-ready v))
+          (λ g. moved is refl (commit-behind g))
         where
           cut : n < 66 * k + 3 → apply (torn n v (commitStores (homeAt l) (changed l w))) l ≡ apply (torn n v logging) l
           cut g = ap (λ (z : List Store). apply (torn n v z) l) (commit-is (homeAt l) (changed l w) some) ∙ ap (λ (z : List Store). apply z l) (torn-first n v logging (recoverStores (homeAt l) (changed l w)) (omega (arith, long-logs)))
