@@ -56,13 +56,13 @@ fn next_store(n: usize) -> usize {
     10
 }
 
-// One of five values for the byte at this offset, which holds one value before its store and another behind it.
-fn value(i: usize, before: u8, behind: u8) -> u8 {
+// The five values that a byte caught may hold.
+fn value(i: usize, stood: u8, meant: u8) -> u8 {
     match i {
         0 => 0,
         1 => 165,
-        2 => before,
-        3 => behind,
+        2 => stood,
+        3 => meant,
         _ => 9,
     }
 }
@@ -103,43 +103,62 @@ fn finish(image: &mut [u8], old: &[u8], new: &[u8], ends: Ends) -> Ends {
     }
 }
 
-// Cuts a recovery at m stores, and catches the byte at this offset.
-fn recovery_cut(image: &[u8], m: usize, at: usize, old: &[u8], new: &[u8], mut ends: Ends) -> Ends
+// Catches the byte at this offset: it holds one of the five values.
+fn catch(image: &mut [u8], at: usize, i: usize, meant: u8) {
+    let stood = byte(image, at);
+    store(image, at, value(i, stood, meant));
+}
+
+// A recovery cut at m stores, the byte of the next one caught, and then one that finishes.
+fn recovery_caught(
+    image: &[u8],
+    m: usize,
+    at: usize,
+    i: usize,
+    old: &[u8],
+    new: &[u8],
+    ends: Ends,
+) -> Ends
     requires { ⌜ m < 193 ⌝ }
 {
-    let mut before = [0u8; 3704];
-    load(&mut before, image);
-    let mut behind = before;
-    log::recover(&mut before, m);
-    log::recover(&mut behind, m + 1);
-    let mut i = 0;
-    while i < 5 {
-        let mut cut = before;
-        store(&mut cut, at, value(i, byte(&before, at), byte(&behind, at)));
-        ends = finish(&mut cut, old, new, ends);
-        i += 1;
-    }
-    ends
+    let mut cut = [0u8; 3704];
+    load(&mut cut, image);
+    let mut whole = cut;
+    log::recover(&mut cut, m);
+    log::recover(&mut whole, m + 1);
+    catch(&mut cut, at, i, byte(&whole, at));
+    finish(&mut cut, old, new, ends)
 }
 
-// Cuts a recovery of the three pages at each of its 193 stores.
-fn replay_cuts(image: &[u8], old: &[u8], new: &[u8], mut ends: Ends) -> Ends {
-    let mut m = 0;
-    while m < 193 {
-        ends = recovery_cut(image, m, next_store(201 + m), old, new, ends);
-        m += 1;
+// The stores that a recovery makes, by the mark.
+fn need(mark: u8) -> usize
+    ensures { λ r. ⌜ r < 194 ⌝ }
+{
+    match mark {
+        0 => 0,
+        165 => 193,
+        _ => 1,
     }
-    ends
 }
 
-// Cuts each recovery that the image's mark calls for, and lets one finish.
-fn recoveries(image: &mut [u8], old: &[u8], new: &[u8], ends: Ends) -> Ends {
-    let cut = match byte(image, 10) {
-        0 => ends,
-        165 => replay_cuts(image, old, new, ends),
-        _ => recovery_cut(image, 0, 10, old, new, ends),
-    };
-    finish(image, old, new, cut)
+// Each cut of a recovery with each of the five values, and a recovery that is not cut.
+fn recoveries(image: &mut [u8], old: &[u8], new: &[u8], mut ends: Ends) -> Ends {
+    let stores = need(byte(image, 10));
+    let mut j = 0;
+    while j < 5 * stores {
+        let m = j / 5;
+        ends = recovery_caught(
+            image,
+            m,
+            next_store(394 - stores + m),
+            j % 5,
+            old,
+            new,
+            ends,
+        );
+        j += 1;
+    }
+    finish(image, old, new, ends)
 }
 
 // An image whose home is the old one, after a commit of the new one cut at n stores.
@@ -149,23 +168,17 @@ fn commit_cut(image: &mut [u8], old: &[u8], new: &[u8], n: usize) {
     log::commit(image, new, n);
 }
 
-// Cuts the commit at n stores, and catches the byte of the next one.
-fn commit_caught(n: usize, old: &[u8], new: &[u8], mut ends: Ends) -> Ends
+// A commit cut at n stores, the byte of the next one caught, and then each recovery.
+fn commit_caught(n: usize, i: usize, old: &[u8], new: &[u8], ends: Ends) -> Ends
     requires { ⌜ n < 394 ⌝ }
 {
-    let mut before = [0u8; 3704];
-    let mut behind = before;
-    commit_cut(&mut before, old, new, n);
-    commit_cut(&mut behind, old, new, n + 1);
+    let mut cut = [0u8; 3704];
+    let mut whole = cut;
+    commit_cut(&mut cut, old, new, n);
+    commit_cut(&mut whole, old, new, n + 1);
     let at = next_store(n);
-    let mut i = 0;
-    while i < 5 {
-        let mut cut = before;
-        store(&mut cut, at, value(i, byte(&before, at), byte(&behind, at)));
-        ends = recoveries(&mut cut, old, new, ends);
-        i += 1;
-    }
-    ends
+    catch(&mut cut, at, i, byte(&whole, at));
+    recoveries(&mut cut, old, new, ends)
 }
 
 fn number(word: &[u8], n: usize) {
@@ -181,19 +194,19 @@ fn line(word: &[u8], ends: Ends) {
     io::write_all(1, b"\n");
 }
 
-// All cuts of the commit from one number of stores up to another.
+// Each cut of the commit from one number of stores up to another, with each of the five values.
 fn commits(word: &[u8], from: usize, to: usize, old: &[u8], new: &[u8])
-    requires { ⌜ to < 395 ⌝ }
+    requires { ⌜ (from < 395) × (to < 395) ⌝ }
 {
     let mut ends = Ends {
         old: 0,
         new: 0,
         other: 0,
     };
-    let mut n = from;
-    while n < to {
-        ends = commit_caught(n, old, new, ends);
-        n += 1;
+    let mut j = 5 * from;
+    while j < 5 * to {
+        ends = commit_caught(j / 5, j % 5, old, new, ends);
+        j += 1;
     }
     line(word, ends);
 }
