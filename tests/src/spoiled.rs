@@ -2,38 +2,29 @@
 //! `tests/spoiled.txt`. First the edits of the image, then the image, then a line for each change.
 use cix::{Record, Refusal, Stored, ALL};
 
-pub fn counted(r: Result<u32, Refusal>) -> String {
+fn counted(r: Result<u32, Refusal>) -> String {
     r.map_or_else(refused, |n| format!("count {n}"))
 }
 
-pub fn stored(r: Result<Stored, Refusal>) -> String {
+fn stored(r: Result<Stored, Refusal>) -> String {
     r.map_or_else(refused, |s| match s {
         Stored::Done(n) => format!("done {n}"),
         Stored::Cut(n) => format!("cut {n}"),
     })
 }
 
-pub fn begun(r: Result<(), Refusal>) -> String {
-    r.map_or_else(refused, |_| "done".into())
-}
-
 fn refused(r: Refusal) -> String {
     format!("refused {}", r.number())
 }
 
-/// The record of an edit: tag, level, second, phone, minutes.
-pub fn record(n: &[u32]) -> Record {
-    Record { level: n[1] as u8, second: n[2], phone: n[3] as u16, minutes: n[4] as u8 }
-}
-
 /// The five calls, each on the changed image; `home` is the unchanged one.
 fn answers(image: &[u8], home: &[u8]) -> String {
-    let begin = begun(cix::begin(image, &mut home.to_vec()));
+    let begun = cix::begin(image, &mut home.to_vec()).map_or_else(refused, |_| "done".into());
     let commit = stored(cix::commit(&mut image.to_vec(), home, ALL));
     let recover = stored(cix::recover(&mut image.to_vec(), ALL));
     let count = counted(cix::count_image(image, 7));
     let space = counted(cix::count_space(&image[image.len() - home.len()..], 7));
-    format!("count {count} | begin {begin} | commit {commit} | recover {recover} | count of its home as a workspace {space}")
+    format!("count {count} | begin {begun} | commit {commit} | recover {recover} | count of its home as a workspace {space}")
 }
 
 /// Puts what the first lines say and commits it.
@@ -43,7 +34,8 @@ fn committed<'a>(edits: impl Iterator<Item = &'a str>) -> (Vec<u8>, Vec<u8>) {
     cix::begin(&image, &mut space).unwrap();
     for line in edits {
         let n: Vec<u32> = line.split(' ').skip(1).map(|n| n.parse().unwrap()).collect();
-        cix::put(&mut space, n[0], record(&n)).unwrap();
+        let r = Record { level: n[1] as u8, second: n[2], phone: n[3] as u16, minutes: n[4] as u8 };
+        cix::put(&mut space, n[0], r).unwrap();
     }
     cix::commit(&mut image, &space, ALL).unwrap();
     (image, space)
