@@ -47,7 +47,7 @@ enum cix_refusal {
     CIX_UNKNOWN = 9,         /* delete, set: no such call; drop: no such tag */
     CIX_LIST_FULL = 10,      /* put: the list has 989 calls */
     CIX_TAGS_FULL = 11,      /* put: there are 256 tags */
-    CIX_NO_ROOM = 12,        /* put: no room */
+    CIX_NO_ROOM = 12,        /* put: all blocks together would not fit */
     CIX_LOG_SHORT = 13,      /* commit: more pages differ than the log has entries */
     CIX_SIZES = 14,          /* format: sizes out of range, or the length does not match */
     CIX_OUTPUT_SHORT = 15    /* the output is shorter than the records to write */

@@ -1,5 +1,5 @@
-/* Calls every function of cix.h: on no bytes at all, with lengths that are not true, and through
- * the specification's bench cases. */
+/* Calls every function of cix.h: on no bytes at all, with lengths that are not true, through the
+ * specification's bench cases, and where all zones are laid out afresh. */
 #include "cix.h"
 #include <stdio.h>
 #include <stdlib.h>
@@ -174,6 +174,30 @@ static void spoiled_mark(void) {
     DONE(cix_count_image(IMAGE, 7), 0);
 }
 
+/* The sixth record of 11 finds no room behind 9, so 9 is laid at 0 and 11 behind it. */
+static void laid_afresh(void) {
+    uint8_t lists[2][48];
+    DONE(cix_format(IMAGE, ENTRIES, PAGES, CIX_ALL), sizeof image + 1);
+    DONE(cix_begin(IMAGE, SPACE), 0);
+    DONE(cix_put(SPACE, 7, 1, 100, 9, 0), 1);
+    for (uint32_t i = 1; i <= 6; i++)
+        DONE(cix_put(SPACE, 9, 1, 200 + i, 9, 0), i);
+    DONE(cix_drop_tag(SPACE, 7), 0);
+    for (uint32_t i = 1; i <= 5; i++)
+        DONE(cix_put(SPACE, 11, 1, 200 + i, 9, 0), i);
+    check("cell of 11", cell(11), 0, __LINE__);
+    check("cell of 9", cell(9), 6, __LINE__);
+    DONE(cix_both_space(SPACE, 9, 9, lists[0], 48), 6);
+    DONE(cix_put(SPACE, 11, 1, 206, 9, 0), 6);
+    check("cell of 9", cell(9), 0, __LINE__);
+    check("cell of 11", cell(11), 7, __LINE__);
+    for (uint32_t tag = 9; tag <= 11; tag += 2) {
+        DONE(cix_both_space(SPACE, tag, tag, lists[1], 48), 6);
+        check("list", memcmp(lists[0], lists[1], 48), 0, __LINE__);
+    }
+    REFUSED(cix_put(SPACE, 13, 1, 100, 9, 0), CIX_NO_ROOM);
+}
+
 int main(void) {
     no_bytes();
     DONE(cix_format(IMAGE, ENTRIES, PAGES, CIX_ALL), sizeof image + 1);
@@ -184,6 +208,7 @@ int main(void) {
     merges();
     cuts();
     spoiled_mark();
+    laid_afresh();
     printf("C: %d checks, %d failed\n", checked, failed);
     return failed != 0;
 }

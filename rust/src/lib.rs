@@ -94,7 +94,7 @@ const REFUSALS: [(Refusal, &str); 15] = [
     (Refusal::Unknown, "no such call or tag"),
     (Refusal::ListFull, "the list has 989 calls"),
     (Refusal::TagsFull, "there are 256 tags"),
-    (Refusal::NoRoom, "no room"),
+    (Refusal::NoRoom, "all blocks together would not fit"),
     (Refusal::LogShort, "more pages differ than the log has entries"),
     (Refusal::Sizes, "sizes out of range, or the length does not match"),
     (Refusal::OutputShort, "the output is shorter than the records to write"),
@@ -166,7 +166,28 @@ pub fn begin(image: &[u8], space: &mut [u8]) -> Result<()> {
         .map(|_| ())
 }
 
-/// Puts a record to a tag's list. Answers the list's count afterwards.
+/// Puts a record to a tag's list. Answers the list's count afterwards. Where its block finds no room,
+/// all blocks are laid out afresh without gaps, so [`Refusal::NoRoom`] means that they would not fit.
+///
+/// ```
+/// use cix::{Record, Refusal};
+///
+/// let mut space = vec![0; cix::space_bytes(2)];
+/// let call = |second| Record { level: 1, second, phone: 9, minutes: 0 };
+/// cix::put(&mut space, 7, call(1))?;
+/// for n in 1..=6 {
+///     cix::put(&mut space, 9, call(n))?;
+/// }
+/// cix::drop_tag(&mut space, 7)?; // leaves a gap, which the last of these puts needs
+/// for n in 1..=6 {
+///     assert_eq!(cix::put(&mut space, 11, call(n)), Ok(n));
+/// }
+/// for tag in [9, 11] {
+///     assert!(cix::records(cix::show_space(&space, tag)).eq((1..=6).map(call)));
+/// }
+/// assert_eq!(cix::put(&mut space, 13, call(1)), Err(Refusal::NoRoom));
+/// # Ok::<(), Refusal>(())
+/// ```
 pub fn put(space: &mut [u8], tag: u32, r: Record) -> Result<u32> {
     counted(unsafe {
         ffi::cix_put(space.as_mut_ptr(), space.len(), tag, r.level, r.second, r.phone, r.minutes)

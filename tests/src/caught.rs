@@ -18,8 +18,8 @@ fn book(p: &Pair) -> &Book {
     p.book.as_ref().unwrap()
 }
 
-/// Checks what the book says of the image, and answers the home that a whole recovery leaves.
-fn found(p: &Pair, tally: &mut Tally) -> Vec<u8> {
+/// Checks what the book says of the image, and answers what a whole recovery leaves.
+fn found(p: &Pair, tally: &mut Tally) -> Pair {
     let book = book(p);
     assert_eq!(p.image[10], book.mark, "the image's mark, the book's");
     assert_eq!(book.mark == MARKED, book.owed > 0, "pages are owed exactly with mark 165");
@@ -28,7 +28,7 @@ fn found(p: &Pair, tally: &mut Tally) -> Vec<u8> {
     whole.recover(cix::ALL, Told::Stood, tally);
     assert_eq!(whole.image[10], 0, "the mark after a whole recovery");
     assert!(whole.home() == book.kept, "a whole recovery does not leave what is kept");
-    whole.home().to_vec()
+    whole
 }
 
 // ---- every cut, on small images
@@ -48,24 +48,27 @@ pub fn every_cut(tally: &mut Tally) -> Found {
     three.open_book();
     let all: Vec<Told> = (0..=255).map(Told::Value).collect();
     let mut counts = Found::default();
-    cuts(&one, 0..134, &TOLD, 1, &mut counts, tally);
-    cuts(&one, [68, 133], &all, 65, &mut counts, tally);
-    cuts(&three, 0..394, &TOLD, 1, &mut counts, tally);
+    cuts(&one, 0..134, &TOLD, 1, &[], &mut counts, tally);
+    cuts(&one, [68, 133], &all, 65, &[], &mut counts, tally);
+    cuts(&three, 0..394, &TOLD, 1, &[], &mut counts, tally);
     counts
 }
 
 /// The commit cut after each of `made` stores, then a recovery cut at its last store and at each
-/// `step` stores before. Each byte caught holds each of `told`.
-fn cuts(
+/// `step` stores before. Each byte caught holds each of `told`. The lists of `same` are the old ones in
+/// whichever index is found.
+pub fn cuts(
     p: &Pair,
     made: impl IntoIterator<Item = u32>,
     told: &[Told],
     step: usize,
+    same: &[u32],
     counts: &mut Found,
     tally: &mut Tally,
 ) {
     let (old, new) = (p.home(), &p.space[..]);
     let mark = 66 * changed(old, new) as u32 + 2;
+    let lists: Vec<&[u8]> = same.iter().map(|&tag| cix::show_image(&p.image, tag)).collect();
     for n in made {
         for &first in told {
             let mut cut = p.clone();
@@ -77,7 +80,8 @@ fn cuts(
                 (Equal, _) => None,
             };
             let mut count = |p: &Pair, tally: &mut Tally| {
-                let home = found(p, tally);
+                let whole = found(p, tally);
+                let home = whole.home();
                 if let Some(index) = must {
                     assert!(home == index, "cut after {n} stores: not the index that must be found");
                 }
@@ -86,6 +90,10 @@ fn cuts(
                 } else {
                     assert!(home == new, "cut after {n} stores: neither the old index nor the new one");
                     counts.new += 1;
+                }
+                for (&tag, &list) in same.iter().zip(&lists) {
+                    let shown = cix::show_image(&whole.image, tag);
+                    assert!(shown == list, "cut after {n} stores: not the list of tag {tag}");
                 }
             };
             count(&cut, tally);

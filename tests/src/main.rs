@@ -1,6 +1,7 @@
 //! Holds the library against the model: `hold [CALLS [SEED]]` makes so many random calls. Every call
 //! is made of both, and its answer and every lent byte are compared. From 100,000 calls on, every cut
 //! is tried, and the program `calls` is held against the model too.
+mod afresh;
 mod book;
 mod calls;
 mod caught;
@@ -34,9 +35,14 @@ fn main() {
         caught::list(&mut rng, &mut tally);
     }
     println!("random lists with bytes caught halfway: {} calls, as the book foretells", tally.calls);
+    afresh::cases(&mut tally);
+    let laid = afresh::nearly_full(calls / 10, &mut rng, &mut tally);
+    println!("nearly full areas: {laid} puts laid all zones out afresh, 12 only where they do not fit");
     if calls >= 100_000 {
         let found = caught::every_cut(&mut tally);
         println!("every cut: {} times the old index is found, {} times the new one", found.old, found.new);
+        let found = afresh::every_cut(&mut tally);
+        println!("zones laid out afresh: {} times the old index, {} times the new one", found.old, found.new);
         limits(&mut tally);
     }
     let enough = tally.calls + calls;

@@ -61,6 +61,8 @@ pub struct Zone {
 pub struct Home {
     pages: usize,
     pub zones: Vec<Zone>,
+    /// Whether a change has laid all zones out afresh.
+    pub afresh: bool,
 }
 
 const DICTIONARY: usize = 128;
@@ -77,7 +79,7 @@ impl Home {
         if b.len() % 64 != 0 || !(1..=1024).contains(&pages) {
             return None;
         }
-        let mut home = Home { pages, zones: vec![Zone::default(); CLASSES] };
+        let mut home = Home { pages, zones: vec![Zone::default(); CLASSES], afresh: false };
         let tags = two(b, 0);
         if tags > 256 || !zero(&b[122..128]) || !zero(&b[DICTIONARY + 6 * tags..AREA]) {
             return None;
@@ -224,6 +226,29 @@ impl Home {
         }
     }
 
+    /// Places a block of class c. Where that finds no room, it is as if it had not begun: the block is the
+    /// last of its zone, and all zones are laid out afresh. False where all blocks together do not fit.
+    fn settle(&mut self, c: usize, block: Block) -> bool {
+        let before = self.clone();
+        if self.place(c, block.clone()) {
+            return true;
+        }
+        *self = before;
+        self.zones[c].blocks.push(block);
+        self.lay_afresh()
+    }
+
+    /// Lays all zones out from cell 0 without gaps; false where they do not fit.
+    fn lay_afresh(&mut self) -> bool {
+        let mut end = 0;
+        for (c, z) in self.zones.iter_mut().enumerate() {
+            z.first = if z.blocks.is_empty() { 0 } else { end };
+            end += z.blocks.len() * size(c);
+        }
+        self.afresh = true;
+        end <= self.cells()
+    }
+
     /// Takes block i of zone c out and closes the gaps above.
     fn take_out(&mut self, c: usize, i: usize) {
         let z = &mut self.zones[c];
@@ -241,8 +266,8 @@ impl Home {
         }
     }
 
-    /// Makes `list` the list of a tag; false where there is no room.
-    fn change(&mut self, tag: u32, list: Vec<Rec>) -> bool {
+    /// Makes `list` the list of a tag; false where all blocks together do not fit.
+    pub fn change(&mut self, tag: u32, list: Vec<Rec>) -> bool {
         let old = self.find(tag);
         if list.is_empty() {
             let (c, i) = old.unwrap();
@@ -257,7 +282,7 @@ impl Home {
             }
             self.take_out(c, i);
         }
-        self.place(new, Block { tag, list })
+        self.settle(new, Block { tag, list })
     }
 }
 

@@ -2,7 +2,7 @@
 use mathlib.Core.Path.{_≡_, refl, ap, _∙_}
 use mathlib.Core.Bool.{true, false}
 use mathlib.Core.List.{List, [], _∷_, map}
-use Prim.Native.Nat.{ℕ, _+_, _*_}
+use Prim.Native.Nat.{ℕ, _+_}
 use native.Mathlib.Omega.{arith}
 use lib.ListN.{replicate, length-replicate}
 use Rattle.wire.specs.Bytes.{pick, part, over, get16, get32, bytes16, bytes32, equal, blank}
@@ -19,7 +19,7 @@ use Rattle.log.specs.Head.{headOf}
 use Rattle.log.specs.Calls.{Plan, answer, after, formatPlan, logOk, committedPlan, recoverPlan, changed, clearPlan, commitPlan}
 use Rattle.log.specs.FormatLaws.{format-done}
 use Rattle.home.specs.Capacities.{capacity, cells, classOf}
-use Rattle.home.specs.Zones.{find, blocks, hasTag, rewritten, place, takeOut, change}
+use Rattle.home.specs.Zones.{find, blocks, hasTag, rewritten, place, takeOut, settle, change}
 use Rattle.home.specs.Valid.{valid}
 use Rattle.home.specs.Bytes.{Spot, spots, encode, decode, zonesFrom}
 use Rattle.home.specs.Sound.{sound, sized, listOf}
@@ -217,7 +217,7 @@ formatted : (L : ℕ) → fresh L ≡ quick L
 formatted L = by-test (inRange L 2) (formats L) (refuses L)
 
 computed : follow quick expected nothing ≡ expected
-unfolding expected follow next result laid which mended seen quick used lent of putAnswer putSpace deleteAnswer deleteSpace dropAnswer dropSpace counted countImage begun spaceAfter beginAnswer beginSpace byHead imageGate spaceGate gatedAnswer gatedBytes told letters home inRange headOk headOf entry entries rising changes logged replay answer after headPage emptyImage clearMark recoverStores logOk committedPlan recoverPlan logStores commitStores clearPlan commitPlan apply run sized sound listOf valid decode zonesFrom encode spots put delete dropTag change place takeOut rewritten hasTag find blocks classOf capacity cells key look insert remove risingFrom bytesOf recordAt records part over get16 get32 bytes16 bytes32 equal blank
+unfolding expected follow next result laid which mended seen quick used lent of putAnswer putSpace deleteAnswer deleteSpace dropAnswer dropSpace counted countImage begun spaceAfter beginAnswer beginSpace byHead imageGate spaceGate gatedAnswer gatedBytes told letters home inRange headOk headOf entry entries rising changes logged replay answer after headPage emptyImage clearMark recoverStores logOk committedPlan recoverPlan logStores commitStores clearPlan commitPlan apply run sized sound listOf valid decode zonesFrom encode spots put delete dropTag change settle place takeOut rewritten hasTag find blocks classOf capacity cells key look insert remove risingFrom bytesOf recordAt records part over get16 get32 bytes16 bytes32 equal blank
 computed = refl
 
 pub cases : table ≡ expected

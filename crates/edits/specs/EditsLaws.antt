@@ -1,17 +1,17 @@
 -- What the edits answer and leave, case by case.
-use mathlib.Core.Path.{_≡_, refl, sym, ap, _∙_, subst}
+use mathlib.Core.Path.{_≡_, refl, sym, ap, ap₂, _∙_, subst}
 use mathlib.Core.Bool.{true, false}
 use mathlib.Core.Logic.{_≢_}
 use mathlib.Core.Option.{Option, none, some}
 use mathlib.Core.List.{List, [], _∷_, append-nil}
-use Prim.Native.Nat.{ℕ, suc, _+_, _-_, _*_, _/_, _<_}
+use Prim.Native.Nat.{ℕ, suc, _+_, _-_, _*_, _/_, _≤_, _<_}
 use native.Mathlib.Omega.{arith}
-use lib.Dec.{ltb}
+use lib.Dec.{leb, ltb}
 use lib.ListN.{length}
-use borrow.Author.Tests.{lt-ltb, le-ltb, le-leb, eq-eqb, ne-eqb}
+use borrow.Author.Tests.{lt-ltb, le-ltb, lt-leb, le-leb}
 use Rattle.wire.specs.Bytes.{get16}
 use Rattle.wire.specs.BytesLaws.{over-whole}
-use Rattle.wire.specs.Cases.{by-test, never}
+use Rattle.wire.specs.Cases.{by-test, by-lt, never}
 use Rattle.wire.specs.All.{more, none as nothing}
 use Rattle.records.specs.declared.Record.{Record}
 use Rattle.records.specs.declared.Place.the-variants.{Found, Absent}
@@ -19,14 +19,15 @@ use Rattle.records.specs.Records.{Fits, key, risingFrom, rising, look, held, ra
 use Rattle.records.specs.Moves.{length-up}
 use Rattle.records.specs.Cells.{length-bytesOf}
 use Rattle.records.specs.Edits.{length-encode, decode-encode}
-use Rattle.room.specs.Spans.{isSome, spans, roomS}
-use Rattle.room.specs.SpansLaws.{change-class, change-same}
+use Rattle.home.specs.Cases.{isSome, some-is}
 use Rattle.home.specs.declared.lookup.Slot.the-variants.{Absent as AbsentTag}
 use Rattle.home.specs.Capacities.{cells, classOf}
-use Rattle.home.specs.Zones.{Zone, blocks, hasTag, find, change as changeBy}
+use Rattle.home.specs.Zones.{Zone, blocks, hasTag, find, total, change as changeBy}
 use Rattle.home.specs.Layout.{change}
-use Rattle.home.specs.Edits.{settle, put, delete, setMinutes, dropTag}
-use Rattle.home.specs.EditsLaws.{length-amend, shorter, empty-unknown}
+use Rattle.home.specs.Afresh.{blockSize, totalAfter as totalAfterBy}
+use Rattle.home.specs.AfreshLaws.{size-some}
+use Rattle.home.specs.Edits.{edited, put, delete, setMinutes, dropTag}
+use Rattle.home.specs.EditsLaws.{length-amend, shorter, exactly, had-size, total-low, empty-unknown}
 use Rattle.home.specs.HomeLaws.{all-mem}
 use Rattle.home.specs.EntriesLaws.{tag-count}
 use Rattle.home.specs.Bytes.{encode, decode}
@@ -38,12 +39,13 @@ use Rattle.home.specs.FindLaws.{find-none, lacks-has}
 use Rattle.edits.specs.declared.Answer.the-variants.{Count, Refused}
 use Rattle.moves.specs.Room.{settled}
 use Rattle.zones.specs.SoundLaws.{sound-small, sound-valid}
-use Rattle.zones.specs.Place.{Placeable, placedIn}
+use Rattle.zones.specs.Place.{Placeable}
+use Rattle.zones.specs.Afresh.{settledIn}
 use Rattle.lists.specs.Lists.{setHere}
 use Rattle.lists.specs.ListedLaws.{listed-has, listed-lying, listed-many}
-use Rattle.lists.specs.RecordLaws.{some-is, without-is, left-many, out-room, new-many, set-changed}
+use Rattle.lists.specs.RecordLaws.{without-is, left-many, out-room, new-many, new-proper, set-changed}
 use Rattle.lists.specs.Listed.{changed, without, Listed, Placed, Ranked}
-use Rattle.edits.specs.Edits.{told, putIn, deleteIn, setIn, dropIn, leaves}
+use Rattle.edits.specs.Edits.{told, putIn, deleteIn, setIn, dropIn, leaves, fitsAfter}
 
 -- ---- what a search finds
 
@@ -68,15 +70,15 @@ rising-one r = rw (le-leb 0 (key r) (omega arith))
 
 -- ---- with room, or none
 
-settle-some : (R : ℕ) (h : List ℕ) (m : ℕ) (zs : List Zone) (o : Option (List Zone)) → isSome o ≡ true → (Count m ≡ told (settle m zs o .answer)) × (settled R h [] o ≡ encode R (settle m zs o .layout))
-unfolding settle settled told isSome
-settle-some R h m zs none i = never i
-settle-some R h m zs (some zs') i = (refl, refl)
+edited-some : (R : ℕ) (h : List ℕ) (m : ℕ) (zs : List Zone) (o : Option (List Zone)) → isSome o ≡ true → (Count m ≡ told (edited m zs o .answer)) × (settled R h [] o ≡ encode R (edited m zs o .layout))
+unfolding edited settled told isSome
+edited-some R h m zs none i = never i
+edited-some R h m zs (some zs') i = (refl, refl)
 
-settle-none : (R : ℕ) (h : List ℕ) (m : ℕ) (zs : List Zone) (o : Option (List Zone)) → h ≡ encode R zs → isSome o ≡ false → (Refused 12 ≡ told (settle m zs o .answer)) × (h ≡ encode R (settle m zs o .layout))
-unfolding settle told isSome
-settle-none R h m zs none e i = (refl, e)
-settle-none R h m zs (some zs') e i = never (sym i)
+edited-none : (R : ℕ) (h : List ℕ) (m : ℕ) (zs : List Zone) (o : Option (List Zone)) → h ≡ encode R zs → isSome o ≡ false → (Refused 12 ≡ told (edited m zs o .answer)) × (h ≡ encode R (edited m zs o .layout))
+unfolding edited told isSome
+edited-none R h m zs none e i = (refl, e)
+edited-none R h m zs (some zs') e i = never (sym i)
 
 settled-none : (R : ℕ) (h : List ℕ) (o : Option (List Zone)) → isSome o ≡ false → settled R h [] o ≡ h
 unfolding settled isSome
@@ -113,7 +115,7 @@ module _ (h : List ℕ) (t p n : ℕ) (l : Listed h t p n) where
 
   pub drop-done : (Count 0 ≡ told (dropIn h t .answer)) × (changed h t [] ≡ leaves h (dropIn h t))
   unfolding dropTag
-  drop-done = rw (listed-has h t p n l) (settle-some R h 0 zs (change (8 * R) t [] zs) (drop-some (8 * R) t zs))
+  drop-done = rw (listed-has h t p n l) (edited-some R h 0 zs (change (8 * R) t [] zs) (drop-some (8 * R) t zs))
 
 pub delete-done : (h : List ℕ) (t p n j : ℕ) (k : Ranked h t p n j) → (Count (n - 1) ≡ told (deleteIn h t (k .key) .answer)) × (changed h t (without j (listOf h t)) ≡ leaves h (deleteIn h t (k .key)))
 unfolding delete listOf
@@ -121,7 +123,7 @@ delete-done h t p n j k =
     let rs : List Record = remove (k .key) (find t (blocks (decode h))) in
     let q : rs ≡ without j (listOf h t) = without-is h t p n j k in
     let e : n - 1 ≡ length rs = omega (arith, left-many h t p n j k, ap length q) in
-    rw (k .held, e, ← q) (settle-some (pagesOf h) h (length rs) (decode h) (change (8 * pagesOf h) t rs (decode h)) (ap (λ (l : List Record). isSome (change (8 * pagesOf h) t l (decode h))) q ∙ out-room h t p n j k))
+    rw (k .held, e, ← q) (edited-some (pagesOf h) h (length rs) (decode h) (change (8 * pagesOf h) t rs (decode h)) (ap (λ (l : List Record). isSome (change (8 * pagesOf h) t l (decode h))) q ∙ out-room h t p n j k))
 
 pub set-done : (h : List ℕ) (t p n j m : ℕ) (k : Ranked h t p n j) → m < 256 → (Count n ≡ told (setIn h t (k .key) m .answer)) × (setHere h p n j m ≡ leaves h (setIn h t (k .key) m))
 unfolding setMinutes listOf
@@ -130,9 +132,13 @@ set-done h t p n j m k g =
     let o : Option (List Zone) = change (8 * pagesOf h) t (amend (k .key) m rs) (decode h) in
     let i : isSome o ≡ true = some-is o (shorter (8 * pagesOf h) t (decode h) (sound-valid h (k .listed .sound)) (listed-lying h t p n (k .listed) .sits .tag) (amend (k .key) m rs)
     (listed-has h t p n (k .listed)) (omega (arith, length-amend (k .key) m rs))) in
-    rw (k .held, ← listed-many h t p n (k .listed), set-changed h t p n j m k g) (settle-some (pagesOf h) h n (decode h) o i)
+    rw (k .held, ← listed-many h t p n (k .listed), set-changed h t p n j m k g) (edited-some (pagesOf h) h n (decode h) o i)
 
 -- ---- a record put to a tag with a list
+
+leb-less : (a x y b : ℕ) → x ≤ a → leb (a - x + y) b ≡ leb (a + y) (b + x)
+leb-less a x y b g =
+    by-lt (b + x) (a + y) (λ o. lt-leb (a - x + y) b (omega arith) ∙ sym (lt-leb (a + y) (b + x) o)) (λ o. le-leb (a - x + y) b (omega arith) ∙ sym (le-leb (a + y) (b + x) o))
 
 module _ (h : List ℕ) (t p n j : ℕ) (r : Record) (k : Placed h t p n j r) where
   abbrev new : List Record
@@ -146,9 +152,9 @@ module _ (h : List ℕ) (t p n j : ℕ) (r : Record) (k : Placed h t p n j r) wh
       rw (k .held, g) (refl, sym (encode-decode h (k .listed .sound)))
 
   module _ (short : n < 989) where
-    settles : putIn h t r ≡ settle (n + 1) (decode h) (change (8 * pagesOf h) t new (decode h))
+    put-edited : putIn h t r ≡ edited (n + 1) (decode h) (change (8 * pagesOf h) t new (decode h))
     unfolding put listOf
-    settles =
+    put-edited =
         let rs : List Record = find t (blocks (decode h)) in
         let m : n ≡ length rs = listed-many h t p n (k .listed) in
         let g : ltb (length rs) 989 ≡ true = lt-ltb (length rs) 989 (omega arith) in
@@ -156,38 +162,43 @@ module _ (h : List ℕ) (t p n j : ℕ) (r : Record) (k : Placed h t p n j r) wh
         rw (k .held, g, listed-has h t p n (k .listed), e)
 
     pub put-done : isSome (change (8 * pagesOf h) t new (decode h)) ≡ true → (Count (n + 1) ≡ told (putIn h t r .answer)) × (changed h t new ≡ leaves h (putIn h t r))
-    put-done i = rw settles (settle-some (pagesOf h) h (n + 1) (decode h) (change (8 * pagesOf h) t new (decode h)) i)
+    put-done i = rw put-edited (edited-some (pagesOf h) h (n + 1) (decode h) (change (8 * pagesOf h) t new (decode h)) i)
 
     pub put-no-room : isSome (change (8 * pagesOf h) t new (decode h)) ≡ false → (Refused 12 ≡ told (putIn h t r .answer)) × (h ≡ leaves h (putIn h t r))
-    put-no-room i = rw settles (settle-none (pagesOf h) h (n + 1) (decode h) (change (8 * pagesOf h) t new (decode h)) (sym (encode-decode h (k .listed .sound))) i)
+    put-no-room i = rw put-edited (edited-none (pagesOf h) h (n + 1) (decode h) (change (8 * pagesOf h) t new (decode h)) (sym (encode-decode h (k .listed .sound))) i)
 
-  -- whether there is room in another class is read off the zone table
-  room-some : (xs : List Record) → 0 < length xs → classOf (length xs) ≢ classOf n → roomS cells (8 * pagesOf h) (classOf n) (classOf (length xs)) (spans (decode h)) ≡ isSome (change (8 * pagesOf h) t xs (decode h))
+  old-size : blockSize cells classOf (listOf h t) ≡ cells (classOf n)
   unfolding listOf
-  room-some [] g d = absurd (omega arith)
-  room-some (x ∷ xs) g d =
-      let e : classOf (length (find t (blocks (decode h)))) ≡ classOf n = ap classOf (sym (listed-many h t p n (k .listed))) in
-      ap (λ (c : ℕ). roomS cells (8 * pagesOf h) c (classOf (length (x ∷ xs))) (spans (decode h))) (sym e)
-      ∙ sym (change-class t (8 * pagesOf h) x xs (decode h) (sound-valid h (k .listed .sound)) (listed-has h t p n (k .listed))
-      (ne-eqb (classOf (length (find t (blocks (decode h))))) (classOf (length (x ∷ xs))) (λ q. d (sym q ∙ e))))
+  old-size =
+      had-size (8 * pagesOf h) t (decode h) (sound-valid h (k .listed .sound)) (listed-lying h t p n (k .listed) .sits .tag) (listed-has h t p n (k .listed)) .0
+      ∙ ap (λ (m : ℕ). cells (classOf m)) (sym (listed-many h t p n (k .listed)))
 
-  pub put-room : classOf (n + 1) ≢ classOf n → roomS cells (8 * pagesOf h) (classOf n) (classOf (n + 1)) (spans (decode h)) ≡ isSome (change (8 * pagesOf h) t new (decode h))
-  put-room d =
-      let m : length new ≡ n + 1 = new-many h t p n j r k in
-      ap (λ (c : ℕ). roomS cells (8 * pagesOf h) (classOf n) (classOf c) (spans (decode h))) (sym m) ∙ room-some new (omega arith) (λ q. d (ap classOf (sym m) ∙ q))
-
-  -- and there is in its own
-  keeps-some : (xs : List Record) → 0 < length xs → classOf (length xs) ≡ classOf n → isSome (change (8 * pagesOf h) t xs (decode h)) ≡ true
+  -- its block is one of all
+  old-least : cells (classOf n) ≤ total cells 0 (decode h)
   unfolding listOf
-  keeps-some [] g d = absurd (omega arith)
-  keeps-some (x ∷ xs) g d =
-      change-same t (8 * pagesOf h) x xs (decode h) (listed-has h t p n (k .listed))
-      (eq-eqb (classOf (length (find t (blocks (decode h))))) (classOf (length (x ∷ xs))) (ap classOf (sym (listed-many h t p n (k .listed))) ∙ sym d))
+  old-least =
+      omega (
+        arith,
+        old-size,
+        had-size (8 * pagesOf h) t (decode h) (sound-valid h (k .listed .sound)) (listed-lying h t p n (k .listed) .sits .tag) (listed-has h t p n (k .listed)) .1,
+      )
 
-  pub put-keeps : classOf (n + 1) ≡ classOf n → isSome (change (8 * pagesOf h) t new (decode h)) ≡ true
-  put-keeps e =
-      let m : length new ≡ n + 1 = new-many h t p n j r k in
-      keeps-some new (omega arith) (ap classOf m ∙ e)
+  module _ (short : n < 989) where
+    -- whether there is room is known by the sizes of all blocks
+    pub put-room : fitsAfter h (classOf n) (classOf (n + 1)) ≡ isSome (change (8 * pagesOf h) t new (decode h))
+    unfolding listOf totalAfterBy
+    put-room =
+        let m : length new ≡ n + 1 = new-many h t p n j r k in
+        let b : blockSize cells classOf new ≡ cells (classOf (n + 1)) = size-some cells classOf new (omega (arith, m)) ∙ ap (λ (d : ℕ). cells (classOf d)) m in
+        sym (exactly (8 * pagesOf h) t (decode h) (sound-valid h (k .listed .sound)) (listed-lying h t p n (k .listed) .sits .tag) new (new-proper h t p n j r k short)
+        ∙ ap₂ (λ (x y : ℕ). leb (total cells 0 (decode h) - x + y) (8 * pagesOf h)) old-size b
+        ∙ leb-less (total cells 0 (decode h)) (cells (classOf n)) (cells (classOf (n + 1))) (8 * pagesOf h) old-least)
+
+    -- and there is where the class stays
+    pub put-keeps : classOf (n + 1) ≡ classOf n → isSome (change (8 * pagesOf h) t new (decode h)) ≡ true
+    put-keeps e =
+        sym put-room ∙ ap (fitsAfter h (classOf n)) e
+        ∙ le-leb (total cells 0 (decode h) + cells (classOf n)) (8 * pagesOf h + cells (classOf n)) (omega (arith, total-low (8 * pagesOf h) (decode h) (sound-valid h (k .listed .sound))))
 
 -- ---- of an unknown tag
 
@@ -249,14 +260,14 @@ module _ (h : List ℕ) (t : ℕ) (s : sound h ≡ true) (no : hasTag t (blocks 
       rising = rw read (rising-one r);
     }
 
-    new-settles : putIn h t r ≡ settle 1 (decode h) (placedIn h t bs)
+    new-edited : putIn h t r ≡ edited 1 (decode h) (settledIn h t bs)
     unfolding put look insert changeBy
-    new-settles =
+    new-edited =
         let g : ltb (length (blocks (decode h))) 256 ≡ true = lt-ltb (length (blocks (decode h))) 256 fewer in
         rw (nothing-found, no, g, read, one)
 
-    pub new-done : (x : List ℕ) → isSome (placedIn h t bs) ≡ true → x ≡ settled (pagesOf h) h [] (placedIn h t bs) → (Count 1 ≡ told (putIn h t r .answer)) × (x ≡ leaves h (putIn h t r))
-    new-done x i y = rw (y, new-settles) (settle-some (pagesOf h) h 1 (decode h) (placedIn h t bs) i)
+    pub new-done : (x : List ℕ) → isSome (settledIn h t bs) ≡ true → x ≡ settled (pagesOf h) h [] (settledIn h t bs) → (Count 1 ≡ told (putIn h t r .answer)) × (x ≡ leaves h (putIn h t r))
+    new-done x i y = rw (y, new-edited) (edited-some (pagesOf h) h 1 (decode h) (settledIn h t bs) i)
 
-    pub new-no-room : (x : List ℕ) → isSome (placedIn h t bs) ≡ false → x ≡ settled (pagesOf h) h [] (placedIn h t bs) → (Refused 12 ≡ told (putIn h t r .answer)) × (x ≡ leaves h (putIn h t r))
-    new-no-room x i y = rw (y, settled-none (pagesOf h) h (placedIn h t bs) i, new-settles) (settle-none (pagesOf h) h 1 (decode h) (placedIn h t bs) stays i)
+    pub new-no-room : (x : List ℕ) → isSome (settledIn h t bs) ≡ false → x ≡ settled (pagesOf h) h [] (settledIn h t bs) → (Refused 12 ≡ told (putIn h t r .answer)) × (x ≡ leaves h (putIn h t r))
+    new-no-room x i y = rw (y, settled-none (pagesOf h) h (settledIn h t bs) i, new-edited) (edited-none (pagesOf h) h 1 (decode h) (settledIn h t bs) stays i)

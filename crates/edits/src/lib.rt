@@ -1,4 +1,5 @@
 // The edits of a sound workspace, in place: put, delete, set minutes and drop.
+use home::classes::cells;
 use home::classes::class_of;
 use home::lookup::Slot;
 use home::lookup::find;
@@ -11,18 +12,18 @@ use lists::read::count_of;
 use lists::read::search_at;
 use records::Place;
 use records::Record;
+use zones::afresh::settle;
+use zones::afresh::total;
 use zones::take::take_out;
 ghost use mathlib.Core.Path.{_≡_};
 ghost use mathlib.Core.Bool.{true, false};
-ghost use Prim.Native.Nat.{_+_, _*_, _<_};
-ghost use lib.ListN.{length};
-ghost use Rattle.home.specs.Capacities.{cells as sizeOf};
+ghost use Prim.Native.Nat.{_<_};
 ghost use Rattle.home.specs.Zones.{blocks, hasTag};
 ghost use Rattle.home.specs.Bytes.{decode};
-ghost use Rattle.home.specs.Sound.{sound, pagesOf};
-ghost use Rattle.room.specs.Spans.{spans, roomS};
+ghost use Rattle.home.specs.Sound.{sound};
+ghost use Rattle.moves.specs.Room.{Stored};
 ghost use Rattle.lists.specs.Listed.{Listed, Placed};
-ghost use Rattle.edits.specs.Edits.{told, putIn, deleteIn, setIn, dropIn, leaves};
+ghost use Rattle.edits.specs.Edits.{told, putIn, deleteIn, setIn, dropIn, leaves, fitsAfter};
 
 // What an edit answers: the list's record count afterwards, or refused with its number.
 pub enum Answer {
@@ -30,13 +31,13 @@ pub enum Answer {
     Refused(u8),
 }
 
-// Whether a block of class d finds room once one of class c is taken out.
+// Whether all blocks fit in the area once one of class d stands for one of class c.
 fn room_after(home: &[u8], c: usize, d: usize) -> bool
-    requires { ⌜ (c < 30) × (d < 30) × (length (now home) ≡ 1664 + 64 * pagesOf (now home)) ⌝ }
-    ensures { λ r. ⌜ r ≡ roomS sizeOf (8 * pagesOf (now (home .entry))) c d (spans (decode (now (home .entry)))) ⌝ }
+    requires { ⌜ Stored (now home) × (c < 30) × (d < 30) ⌝ }
+    ensures { λ r. ⌜ r ≡ fitsAfter (now (home .entry)) c d ⌝ }
 {
     let area = (home.len() - 1664) / 8;
-    room::has_room_after(room::read_table(home), area, c, d)
+    total(home) + cells(d) <= area + cells(c)
 }
 
 // Puts a record in at its rank among the n records of the tag's block at cell p.
@@ -85,7 +86,7 @@ fn put_new(home: &mut [u8], tag: u32, r: Record) -> Answer
     }
     let mut list = [0; 8];
     records::insert(&mut list, 0, r);
-    if zones::place::place(home, tag, &list) {
+    if settle(home, tag, &list) {
         Answer::Count(1)
     } else {
         Answer::Refused(12)

@@ -13,14 +13,15 @@ use Rattle.wire.specs.Cases.{never}
 use Rattle.wire.specs.All.{All, more, all-tail}
 use Rattle.records.specs.declared.Record.{Record}
 use Rattle.records.specs.Records.{Fits, rising}
-use Rattle.home.specs.Zones.{Block, Zone, empty, from, zone, place, hasTag, takeOut, blocks, find, replaced, rewritten, change}
+use Rattle.home.specs.Zones.{Block, Zone, empty, from, zone, place, hasTag, takeOut, blocks, find, replaced, rewritten, settle, change}
 use Rattle.home.specs.Perm.{Perm, pskip, pswap, ptrans, Pairs, after}
 use Rattle.home.specs.Valid.{Other, Sits, Lies, Laid, Valid}
-use Rattle.home.specs.Cases.{by-pick, Holds, holds-both}
+use Rattle.home.specs.Cases.{by-pick, Holds, holds-to}
 use Rattle.home.specs.PermLaws.{prefl, psym, pleft, pright, pfront, plength, pall, pairs-head, pairs-tail}
 use Rattle.home.specs.FindLaws.{Lacks, pdistinct, find-here, find-skip, has-append, find-later, find-none, lacks-has, pfind}
-use Rattle.home.specs.PlaceLaws.{Made, place-made, place-length}
-use Rattle.home.specs.TakeLaws.{Taken, TakenOut, takeOut-taken, takeOut-length, takeOut-valid}
+use Rattle.home.specs.PlaceLaws.{Placed}
+use Rattle.home.specs.AfreshLaws.{settle-holds, settle-placed}
+use Rattle.home.specs.TakeLaws.{TakenOut, takeOut-taken, takeOut-valid}
 use Rattle.home.specs.RoomLaws.{find-class, shrink-room}
 
 -- ---- a list changed where it lies
@@ -119,8 +120,8 @@ pub record Listed (rs : List Record) : Type 0 where
   pub short : length rs ≤ 989
 
 module _ (cells classOf : ℕ → ℕ) (mono : (c : ℕ) → cells c ≤ cells (suc c)) (pos : (c : ℕ) → 0 < cells c)
-    (holds : (n : ℕ) → n ≤ 989 → n < cells (classOf n)) (ordered : (m n : ℕ) → m ≤ n → classOf m ≤ classOf n) where
-  sits : (t : ℕ) (r : Record) (rs : List Record) → t < 4294967296 → Listed (r ∷ rs) → Sits cells classOf (classOf (length (r ∷ rs))) (record { tag = t; list = r ∷ rs })
+    (holds : (n : ℕ) → n ≤ 989 → n < cells (classOf n)) (below : (n : ℕ) → n ≤ 989 → classOf n < 30) (ordered : (m n : ℕ) → m ≤ n → classOf m ≤ classOf n) where
+  pub sits : (t : ℕ) (r : Record) (rs : List Record) → t < 4294967296 → Listed (r ∷ rs) → Sits cells classOf (classOf (length (r ∷ rs))) (record { tag = t; list = r ∷ rs })
   sits t r rs b h = record { tag = b; some = omega arith; room = holds (length (r ∷ rs)) (h .short); class = refl; rising = h .rising; fits = h .fits }
 
   module _ (n t : ℕ) (zs : List Zone) (v : Valid cells classOf n zs) (bt : t < 4294967296) where
@@ -129,30 +130,33 @@ module _ (cells classOf : ℕ → ℕ) (mono : (c : ℕ) → cells c ≤ cells (
         record { valid = k .valid; found = find-none t (blocks (takeOut cells t 0 0 zs)) (k .gone); others = k .others }
 
     module _ (r : Record) (rs : List Record) (l : Listed (r ∷ rs)) where
+      settled-changed : (ws zs' : List Zone) → Valid cells classOf n ws → Lacks t (blocks ws) → ((u : ℕ) → u ≢ t → find u (blocks ws) ≡ find u (blocks zs))
+          → Placed cells classOf n (record { tag = t; list = r ∷ rs }) ws zs' → Changed cells classOf t n (r ∷ rs) zs zs'
+      settled-changed ws zs' w k o p =
+          let b : Block = record { tag = t; list = r ∷ rs } in
+          let d : Pairs Other (blocks zs') = pdistinct (psym (p .same)) (after k (w .distinct)) in
+          record { valid = p .valid; found = pfind t (p .same) d ∙ find-here t b (blocks ws) refl; others = λ u q. pfind u (p .same) d ∙ find-skip u b (blocks ws) q ∙ o u q }
+
       new-changed : hasTag t (blocks zs) ≡ false → length (blocks zs) < 256
-          → Holds (Changed cells classOf t n (r ∷ rs) zs) (place cells n 0 0 (classOf (length (r ∷ rs))) (record { tag = t; list = r ∷ rs }) zs)
+          → Holds (Changed cells classOf t n (r ∷ rs) zs) (settle cells n (classOf (length (r ∷ rs))) (record { tag = t; list = r ∷ rs }) zs)
       new-changed i few =
           let b : Block = record { tag = t; list = r ∷ rs } in
           let c : ℕ = classOf (length (r ∷ rs)) in
-          holds-both (Made cells classOf n 0 0 (b ∷ blocks zs)) (λ (z : List Zone). length z ≡ length zs) (Changed cells classOf t n (r ∷ rs) zs) (place cells n 0 0 c b zs)
-          (λ zs' m k. let d : Pairs Other (blocks zs') = pdistinct (psym (m .same)) (after (lacks-has t (blocks zs) i) (v .distinct)) in
-          record {
-            valid = record { classes = k ∙ v .classes; laid = m .laid; distinct = d; few = omega (arith, plength (m .same), few) };
-            found = pfind t (m .same) d ∙ find-here t b (blocks zs) refl;
-            others = λ u q. pfind u (m .same) d ∙ find-skip u b (blocks zs) q;
-          })
-          (place-made cells classOf mono pos n 0 0 c c b zs (omega arith) (sits t r rs bt l) (v .laid)) (place-length cells classOf mono pos n 0 0 c b zs)
+          let k : Lacks t (blocks zs) = lacks-has t (blocks zs) i in
+          holds-to (Placed cells classOf n b zs) (Changed cells classOf t n (r ∷ rs) zs) (settle cells n c b zs)
+          (λ zs' p. settled-changed zs zs' v k (λ u q. refl) p)
+          (settle-holds cells classOf mono pos n c b zs v (sits t r rs bt l) (below (length (r ∷ rs)) (l .short)) k few)
 
-      moved-changed : hasTag t (blocks zs) ≡ true → Holds (Changed cells classOf t n (r ∷ rs) zs) (place cells n 0 0 (classOf (length (r ∷ rs))) (record { tag = t; list = r ∷ rs }) (takeOut cells t 0 0 zs))
+      moved-changed : hasTag t (blocks zs) ≡ true → Holds (Changed cells classOf t n (r ∷ rs) zs) (settle cells n (classOf (length (r ∷ rs))) (record { tag = t; list = r ∷ rs }) (takeOut cells t 0 0 zs))
       moved-changed i =
           let b : Block = record { tag = t; list = r ∷ rs } in
           let c : ℕ = classOf (length (r ∷ rs)) in
-          let zs₁ : List Zone = takeOut cells t 0 0 zs in
-          let k : Taken cells classOf t n 0 0 (blocks zs) zs₁ = takeOut-taken cells classOf pos t n 0 0 zs (v .laid) i in
-          holds-both (Made cells classOf n 0 0 (b ∷ blocks zs₁)) (λ (z : List Zone). length z ≡ length zs₁) (Changed cells classOf t n (r ∷ rs) zs) (place cells n 0 0 c b zs₁)
-          (λ zs' m q. swapped-changed cells classOf t n (r ∷ rs) zs zs' v (q ∙ takeOut-length cells classOf pos t 0 0 zs) (m .laid)
-          (record { old = k .out .block; rest = blocks zs₁; tag = k .out .tag; was = psym (k .out .same); is = m .same }))
-          (place-made cells classOf mono pos n 0 0 c c b zs₁ (omega arith) (sits t r rs bt l) (k .laid)) (place-length cells classOf mono pos n 0 0 c b zs₁)
+          let ys : List Zone = takeOut cells t 0 0 zs in
+          let k : TakenOut cells classOf t n zs ys = takeOut-valid cells classOf pos t n zs v i in
+          let m : suc (length (blocks ys)) ≡ length (blocks zs) = plength (takeOut-taken cells classOf pos t n 0 0 zs (v .laid) i .out .same) in
+          holds-to (Placed cells classOf n b ys) (Changed cells classOf t n (r ∷ rs) zs) (settle cells n c b ys)
+          (λ zs' p. settled-changed ys zs' (k .valid) (k .gone) (k .others) p)
+          (settle-holds cells classOf mono pos n c b ys (k .valid) (sits t r rs bt l) (below (length (r ∷ rs)) (l .short)) (k .gone) (omega (arith, m, v .few)))
 
       same-changed : hasTag t (blocks zs) ≡ true → classOf (length (find t (blocks zs))) ≡ classOf (length (r ∷ rs)) → Changed cells classOf t n (r ∷ rs) zs (rewritten t (r ∷ rs) zs)
       same-changed i q =
@@ -181,5 +185,7 @@ module _ (cells classOf : ℕ → ℕ) (mono : (c : ℕ) → cells c ≤ cells (
         (λ p. by-pick IsSome (eqb (classOf (length (find t (blocks zs)))) (classOf (length (r ∷ rs)))) (λ q. tt)
         (λ q. let ne : classOf (length (find t (blocks zs))) ≢ classOf (length (r ∷ rs)) = eqb-false _ _ q in
         let le : classOf (length (r ∷ rs)) ≤ classOf (length (find t (blocks zs))) = ordered (length (r ∷ rs)) (length (find t (blocks zs))) h in
-        shrink-room cells classOf mono pos t n (classOf (length (r ∷ rs))) (record { tag = t; list = r ∷ rs }) zs v i (omega arith)))
+        let y : IsSome (place cells n 0 0 (classOf (length (r ∷ rs))) (record { tag = t; list = r ∷ rs }) (takeOut cells t 0 0 zs)) =
+        shrink-room cells classOf mono pos t n (classOf (length (r ∷ rs))) (record { tag = t; list = r ∷ rs }) zs v i (omega arith) in
+        rw (settle-placed cells classOf mono pos n (classOf (length (r ∷ rs))) (record { tag = t; list = r ∷ rs }) (takeOut cells t 0 0 zs) y) y))
         (λ p. never (sym p ∙ i))

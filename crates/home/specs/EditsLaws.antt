@@ -6,7 +6,7 @@ use mathlib.Core.Option.{Option, none, some, IsSome}
 use mathlib.Core.List.{List, [], _∷_}
 use Prim.Native.Nat.{ℕ, suc, _+_, _*_, _≤_, _<_}
 use native.Mathlib.Omega.{arith}
-use lib.Dec.{ltb, eqb}
+use lib.Dec.{leb, ltb, eqb}
 use lib.ListN.{length}
 use borrow.Author.Tests.{ltb-true}
 use Rattle.wire.specs.Cases.{never}
@@ -15,13 +15,16 @@ use Rattle.records.specs.declared.Record.{Record}
 use Rattle.records.specs.Records.{Fits, key, rising, look, held, insert, remove, lasting, amend}
 use Rattle.records.specs.Order.{rising-nil, insert-rising, remove-rising, amend-rising}
 use Rattle.home.specs.Capacities.{cells, classOf}
-use Rattle.home.specs.CapacitiesLaws.{cells-mono, cells-pos, cells-most, class-holds, class-mono}
-use Rattle.home.specs.Zones.{Block, Zone, empty, from, hasTag, blocks, find}
-use Rattle.home.specs.Layout.{Sits, Laid, Valid, change}
-use Rattle.home.specs.Edits.{Answer, count, refused, Edited, settle, put, delete, setMinutes, dropTag}
-use Rattle.home.specs.Cases.{by-pick, Holds}
+use Rattle.home.specs.CapacitiesLaws.{cells-mono, cells-pos, cells-most, class-below, class-holds, class-mono}
+use Rattle.home.specs.Zones.{Block, Zone, empty, from, hasTag, blocks, find, total}
+use Rattle.home.specs.Layout.{Sits, Laid, Valid, change, totalAfter}
+use Rattle.home.specs.Edits.{Answer, count, refused, Edited, edited, put, delete, setMinutes, dropTag}
+use Rattle.home.specs.Cases.{by-pick, isSome, Holds}
 use Rattle.home.specs.FindLaws.{by-tag, has-here, has-skip, find-here, find-skip}
+use Rattle.home.specs.Afresh.{blockSize}
+use Rattle.home.specs.AfreshLaws.{laid-total}
 use Rattle.home.specs.ChangeLaws.{Changed, Listed, Open, change-changed, shorter-some}
+use Rattle.home.specs.ExactLaws.{had, change-exactly}
 
 -- ---- lists
 
@@ -130,27 +133,39 @@ Outcome n t rs zs No (refused k) zs' = No k × (zs' ≡ zs)
 abbrev pub Ends : ℕ → ℕ → List Record → List Zone → (ℕ → Type 0) → Edited → Type 0
 Ends n t rs zs No d = Outcome n t rs zs No (d .answer) (d .layout)
 
-settled : (n t m : ℕ) (rs : List Record) (zs : List Zone) (No : ℕ → Type 0) (o : Option (List Zone)) → m ≡ length rs → No 12
-    → Holds (Changed cells classOf t n rs zs) o → Ends n t rs zs No (settle m zs o)
-unfolding settle
-settled n t m rs zs No none e f h = (f, refl)
-settled n t m rs zs No (some zs') e f h = (e, h)
+edited-ends : (n t m : ℕ) (rs : List Record) (zs : List Zone) (No : ℕ → Type 0) (o : Option (List Zone)) → m ≡ length rs → No 12
+    → Holds (Changed cells classOf t n rs zs) o → Ends n t rs zs No (edited m zs o)
+unfolding edited
+edited-ends n t m rs zs No none e f h = (f, refl)
+edited-ends n t m rs zs No (some zs') e f h = (e, h)
 
-settled-some : (n t m : ℕ) (rs : List Record) (zs : List Zone) (No : ℕ → Type 0) (o : Option (List Zone)) → m ≡ length rs → IsSome o
-    → Holds (Changed cells classOf t n rs zs) o → Ends n t rs zs No (settle m zs o)
-unfolding settle
-settled-some n t m rs zs No none e f h = absurd f
-settled-some n t m rs zs No (some zs') e f h = (e, h)
+some-ends : (n t m : ℕ) (rs : List Record) (zs : List Zone) (No : ℕ → Type 0) (o : Option (List Zone)) → m ≡ length rs → IsSome o
+    → Holds (Changed cells classOf t n rs zs) o → Ends n t rs zs No (edited m zs o)
+unfolding edited
+some-ends n t m rs zs No none e f h = absurd f
+some-ends n t m rs zs No (some zs') e f h = (e, h)
+
+-- all blocks lie in the area
+pub total-low : (n : ℕ) (zs : List Zone) → Valid n zs → total cells 0 zs ≤ n
+total-low n zs v = omega (arith, laid-total cells classOf n 0 0 zs (v .laid))
 
 module _ (n t : ℕ) (zs : List Zone) (v : Valid n zs) (bt : t < 4294967296) where
   abbrev pub Free : List Record → Type 0
-  Free rs = Open cells classOf cells-mono cells-pos class-holds class-mono n t zs v bt rs
+  Free rs = Open cells classOf cells-mono cells-pos class-holds class-below class-mono n t zs v bt rs
 
   pub changed : (rs : List Record) → Listed rs → Free rs → Holds (Changed cells classOf t n rs zs) (change n t rs zs)
-  changed rs l o = change-changed cells classOf cells-mono cells-pos class-holds class-mono n t zs v bt rs l o
+  changed rs l o = change-changed cells classOf cells-mono cells-pos class-holds class-below class-mono n t zs v bt rs l o
 
   pub shorter : (rs : List Record) → hasTag t (blocks zs) ≡ true → length rs ≤ length (find t (blocks zs)) → IsSome (change n t rs zs)
-  shorter rs i h = shorter-some cells classOf cells-mono cells-pos class-holds class-mono n t zs v bt rs i h
+  shorter rs i h = shorter-some cells classOf cells-mono cells-pos class-holds class-below class-mono n t zs v bt rs i h
+
+  -- "Refusal 12 then means only this"
+  pub exactly : (rs : List Record) → Listed rs → isSome (change n t rs zs) ≡ leb (totalAfter t rs zs) n
+  exactly rs l = change-exactly cells classOf cells-mono cells-pos class-holds class-below class-mono n t zs v bt rs l
+
+  -- the size of the tag's block, which is one of all
+  pub had-size : hasTag t (blocks zs) ≡ true → (blockSize cells classOf (find t (blocks zs)) ≡ cells (classOf (length (find t (blocks zs))))) × (blockSize cells classOf (find t (blocks zs)) ≤ total cells 0 zs)
+  had-size i = let k = had cells classOf cells-mono cells-pos class-holds class-below class-mono n t zs v bt i in (k .size, omega (arith, k .others))
 
   -- a tag that is there may have any list
   pub free-any : (rs : List Record) → hasTag t (blocks zs) ≡ true → Free rs
@@ -159,8 +174,8 @@ module _ (n t : ℕ) (zs : List Zone) (v : Valid n zs) (bt : t < 4294967296) whe
 
   -- a shorter list, or one as long
   no-longer : (m : ℕ) (rs : List Record) → Listed rs → length rs ≤ length (find t (blocks zs)) → hasTag t (blocks zs) ≡ true → m ≡ length rs
-      → Ends n t rs zs (λ (x : ℕ). x ≡ 9) (settle m zs (change n t rs zs))
-  no-longer m rs l b i e = settled-some n t m rs zs (λ (x : ℕ). x ≡ 9) (change n t rs zs) e (shorter rs i b) (changed rs l (free-any rs i))
+      → Ends n t rs zs (λ (x : ℕ). x ≡ 9) (edited m zs (change n t rs zs))
+  no-longer m rs l b i e = some-ends n t m rs zs (λ (x : ℕ). x ≡ 9) (change n t rs zs) e (shorter rs i b) (changed rs l (free-any rs i))
 
   pub delete-ends : (k : ℕ) → Ends n t (remove k (find t (blocks zs))) zs (λ (x : ℕ). x ≡ 9) (delete n t k zs)
   unfolding delete
@@ -206,7 +221,7 @@ module _ (n t : ℕ) (zs : List Zone) (v : Valid n zs) (bt : t < 4294967296) whe
       by-pick (Ends n t (insert r rs) zs PutNo) (held (look (key r) rs)) (λ p. (omega arith, refl))
       (λ p. by-pick (Ends n t (insert r rs) zs PutNo) (ltb (length rs) 989)
       (λ q. by-pick (Ends n t (insert r rs) zs PutNo) (hasTag t (blocks zs) || ltb (length (blocks zs)) 256)
-      (λ o. settled n t (suc (length rs)) (insert r rs) zs PutNo (change n t (insert r rs) zs) (sym e) (omega arith)
+      (λ o. edited-ends n t (suc (length rs)) (insert r rs) zs PutNo (change n t (insert r rs) zs) (sym e) (omega arith)
       (changed (insert r rs) (insert-listed r rs f p (ltb-true (length rs) 989 q) l)
       (free-new (insert r rs) (omega (arith, e)) o)))
       (λ o. (omega arith, refl)))

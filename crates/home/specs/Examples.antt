@@ -8,7 +8,7 @@ use Rattle.wire.specs.Bytes.{part, blank, equal}
 use Rattle.records.specs.declared.Record.{Record}
 use Rattle.records.specs.Records.{key, look, insert, remove, amend, bytesOf, risingFrom, recordAt}
 use Rattle.home.specs.Capacities.{capacity, cells, classOf}
-use Rattle.home.specs.Zones.{Zone, empty, blocks, hasTag, find, rewritten, place, takeOut, change}
+use Rattle.home.specs.Zones.{Zone, empty, blocks, hasTag, find, rewritten, place, takeOut, settle, change}
 use Rattle.home.specs.Bytes.{Entry, dictionary, encode, decode, zonesFrom}
 use Rattle.home.specs.Valid.{valid}
 use Rattle.home.specs.Sound.{sound}
@@ -95,7 +95,7 @@ bench =
     []
 
 bench-holds : follow 16 (replicate 30 empty) bench ≡ true
-unfolding follow change place takeOut rewritten hasTag look insert remove amend cells bench
+unfolding follow change settle place takeOut rewritten hasTag look insert remove amend cells bench
 bench-holds = refl
 
 -- the layout after them
@@ -179,7 +179,7 @@ model =
     []
 
 model-holds : follow 16 (replicate 30 empty) model ≡ true
-unfolding follow change place takeOut rewritten hasTag look insert remove amend cells model
+unfolding follow change settle place takeOut rewritten hasTag look insert remove amend cells model
 model-holds = refl
 
 -- the home that the model was given to spoil
@@ -207,5 +207,5 @@ pokings =
     []
 
 model-judges : judged whole (record { pokes = []; fine = true } ∷ pokings) ≡ true
-unfolding judged whole pokings change place takeOut rewritten hasTag look insert remove amend cells sound valid equal decode zonesFrom encode bytesOf risingFrom recordAt classOf find blocks capacity part blank
+unfolding judged whole pokings change settle place takeOut rewritten hasTag look insert remove amend cells sound valid equal decode zonesFrom encode bytesOf risingFrom recordAt classOf find blocks capacity part blank
 model-judges = refl

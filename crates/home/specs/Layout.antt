@@ -6,6 +6,7 @@ use Prim.Native.Nat.{ℕ}
 use Rattle.records.specs.declared.Record.{Record}
 use Rattle.home.specs.Capacities.{cells, classOf}
 use Rattle.home.specs.Zones.{Block, Zone, change as changeBy}
+use Rattle.home.specs.Afresh.{totalAfter as totalAfterBy}
 use Rattle.home.specs.Valid.{Sits as SitsBy, Laid as LaidBy, Fit as FitBy, Valid as ValidBy, valid as validBy}
 
 abbrev pub Sits : ℕ → Block → Type 0
@@ -25,3 +26,6 @@ valid area zs = validBy cells classOf area zs
 
 abbrev pub change : ℕ → ℕ → List Record → List Zone → Option (List Zone)
 change area t rs zs = changeBy cells classOf area t rs zs
+
+abbrev pub totalAfter : ℕ → List Record → List Zone → ℕ
+totalAfter t rs zs = totalAfterBy cells classOf t rs zs

@@ -7,6 +7,7 @@ pub mod Bytes
 pub mod Sound
 pub mod Edits
 pub mod Examples
+pub mod AfreshExamples
 pub mod Cases
 pub mod Table
 pub mod CapacitiesLaws
@@ -17,7 +18,10 @@ pub mod TakeLaws
 pub mod Literal
 pub mod LiteralLaws
 pub mod RoomLaws
+pub mod Afresh
+pub mod AfreshLaws
 pub mod ChangeLaws
+pub mod ExactLaws
 pub mod EditsLaws
 pub mod ValidLaws
 pub mod BytesLaws

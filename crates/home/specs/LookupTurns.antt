@@ -25,7 +25,7 @@ use Rattle.home.specs.Lookup.{Ordered, entered, rankAt, slotOf}
 pub sound-ordered : (h : List ℕ) → sound h ≡ true → Ordered h
 sound-ordered h s = let f = entries-few h s in record { few = f .0; long = omega (arith, f .1); rise = λ i j a b. entries-rise h i j s a b }
 
--- ---- ranks
+-- ---- byClass
 
 module _ (h : List ℕ) (t : ℕ) where
   pub rank-most : (i n : ℕ) → rankAt h t i n ≤ n

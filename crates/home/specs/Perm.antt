@@ -1,7 +1,8 @@
--- Lists that hold the same elements in another order, membership, and elements all of which stand in a relation.
+-- Lists that hold the same elements in another order, membership, sums, and elements all of which stand in a relation.
 use mathlib.Core.Logic.{_⊎_}
 use mathlib.Core.Path.{_≡_}
 use mathlib.Core.List.{List, [], _∷_}
+use Prim.Native.Nat.{ℕ, _+_}
 use Rattle.wire.specs.All.{All}
 
 pub data Perm {A : Type 0} : List A → List A → Type 0 where
@@ -13,6 +14,11 @@ pub data Perm {A : Type 0} : List A → List A → Type 0 where
 abbrev pub In : {A : Type 0} → A → List A → Type 0
 In x [] = ⊥
 In x (y ∷ ys) = (x ≡ y) ⊎ In x ys
+
+-- a number of each element, added up
+unfoldable pub sum : {A : Type 0} → (A → ℕ) → List A → ℕ
+sum f [] = 0
+sum f (x ∷ xs) = f x + sum f xs
 
 -- each element stands in R to all after it
 pub data Pairs {A : Type 0} (R : A → A → Type 0) : List A → Type 0 where

@@ -2,10 +2,11 @@
 use mathlib.Core.Path.{_≡_, refl, sym, ap, _∙_, subst}
 use mathlib.Core.Logic.{inl, inr}
 use mathlib.Core.List.{List, [], _∷_, _++_, map, append-nil}
-use Prim.Native.Nat.{suc}
+use Prim.Native.Nat.{ℕ, suc, _+_}
+use native.Mathlib.Omega.{arith}
 use lib.ListN.{length}
 use Rattle.wire.specs.All.{All, none, more, all-append, all-head, all-tail}
-use Rattle.home.specs.Perm.{Perm, pnil, pskip, pswap, ptrans, In, Pairs, after}
+use Rattle.home.specs.Perm.{Perm, pnil, pskip, pswap, ptrans, In, sum, Pairs, after}
 
 module _ {A : Type 0} where
   pub prefl : (xs : List A) → Perm xs xs
@@ -111,3 +112,13 @@ module _ {A B : Type 0} (f : A → B) where
   map-in x [] i = absurd i
   map-in x (y ∷ xs) (inl e) = inl (ap f e)
   map-in x (y ∷ xs) (inr i) = inr (map-in x xs i)
+
+-- ---- sums
+
+-- a sum does not see the order
+pub psum : {A : Type 0} (f : A → ℕ) {xs ys : List A} → Perm xs ys → sum f xs ≡ sum f ys
+unfolding sum
+psum f pnil = refl
+psum f (pskip x p) = ap (λ (n : ℕ). f x + n) (psum f p)
+psum f (pswap x y xs) = omega arith
+psum f (ptrans p q) = psum f p ∙ psum f q

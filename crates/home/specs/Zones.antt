@@ -7,6 +7,7 @@ use lib.Dec.{leb, eqb}
 use lib.ListN.{length}
 use Rattle.wire.specs.Bytes.{pick}
 use Rattle.records.specs.declared.Record.{Record}
+use Rattle.home.specs.Cases.{orElse}
 
 -- "A block is one cell of header, tag (4), record count (2), .., then its records"
 pub record Block : Type 0 where
@@ -81,6 +82,18 @@ rewritten t rs [] = []
 rewritten t rs (empty ∷ zs) = empty ∷ rewritten t rs zs
 rewritten t rs (from f x xs ∷ zs) = pick (hasTag t (x ∷ xs)) (zone f (replaced t rs (x ∷ xs)) ∷ zs) (from f x xs ∷ rewritten t rs zs)
 
+-- a zone from another cell on
+unfoldable pub based : ℕ → Zone → Zone
+based e empty = empty
+based e (from f x xs) = from e x xs
+
+-- "the new block last in its zone", which is zone n of these, wherever they lie
+unfoldable pub joined : ℕ → Block → List Zone → List Zone
+unfolding added
+joined n b [] = []
+joined zero b (z ∷ zs) = added 0 b z ∷ zs
+joined (suc n) b (z ∷ zs) = z ∷ joined n b zs
+
 -- ---- blocks moved: c is the class of the first zone given, e the cell at which the lower zones end
 
 module _ (cells : ℕ → ℕ) where
@@ -133,13 +146,35 @@ module _ (cells : ℕ → ℕ) where
       (zone f (removed t (x ∷ xs)) ∷ close (suc c) (endOf c e (zone f (removed t (x ∷ xs)))) zs)
       (from f x xs ∷ takeOut t (suc c) (f + suc (length xs) * cells c) zs)
 
+  -- the sizes of all blocks of zones c and up
+  unfoldable pub total : ℕ → List Zone → ℕ
+  total c [] = 0
+  total c (empty ∷ zs) = total (suc c) zs
+  total c (from f x xs ∷ zs) = suc (length xs) * cells c + total (suc c) zs
+
+  -- "lay out all zones afresh .. without gaps, blocks in the order they had just before the placing": zones c and up from cell e on
+  unfoldable pub afresh : ℕ → ℕ → List Zone → List Zone
+  unfolding based endOf
+  afresh c e [] = []
+  afresh c e (z ∷ zs) = based e z ∷ afresh (suc c) (endOf c e (based e z)) zs
+
+  -- "from cell 0", unless "the sizes of all blocks after the edit add up to more than the record area"
+  unfoldable pub layAfresh : ℕ → ℕ → Block → List Zone → Option (List Zone)
+  unfolding joined total afresh
+  layAfresh area n b zs = pick (leb (total 0 (joined n b zs)) area) (some (afresh 0 0 (joined n b zs))) none
+
+  -- a block of class n is placed. "When placing finds no room, lay out all zones afresh"
+  unfoldable pub settle : ℕ → ℕ → Block → List Zone → Option (List Zone)
+  unfolding orElse layAfresh place
+  settle area n b zs = orElse (place area 0 0 n b zs) (layAfresh area n b zs)
+
   -- tag t's list becomes rs. "a list that becomes empty loses its dictionary entry"; "An unknown tag gets a class 0 block"; one that keeps its class stays where it is;
-  -- "a list that changes class is taken out, gaps closed, then placed". None if there is no room.
+  -- "a list that changes class is taken out, gaps closed, then placed". None if "the sizes of all blocks after the edit add up to more than the record area".
   unfoldable pub change : (ℕ → ℕ) → ℕ → ℕ → List Record → List Zone → Option (List Zone)
   change classOf area t [] zs = some (takeOut t 0 0 zs)
   change classOf area t (r ∷ rs) zs =
       let b : Block = record { tag = t; list = r ∷ rs } in
       let c : ℕ = classOf (length (r ∷ rs)) in
       pick (hasTag t (blocks zs))
-      (pick (eqb (classOf (length (find t (blocks zs)))) c) (some (rewritten t (r ∷ rs) zs)) (place area 0 0 c b (takeOut t 0 0 zs)))
-      (place area 0 0 c b zs)
+      (pick (eqb (classOf (length (find t (blocks zs)))) c) (some (rewritten t (r ∷ rs) zs)) (settle area c b (takeOut t 0 0 zs)))
+      (settle area c b zs)

@@ -6,3 +6,4 @@ pub mod Claim
 pub mod Rules
 pub mod RulesLaws
 pub mod Demands
+pub mod Afresh

@@ -11,10 +11,9 @@ use Rattle.records.specs.Records.{key, look, held, insert}
 use Rattle.redo.specs.Image.{capacity, mark, pages, home, headOk, inRange, imageLength}
 use Rattle.log.specs.Calls.{changed, logOk}
 use Rattle.home.specs.Zones.{blocks, hasTag}
-use Rattle.home.specs.Layout.{change}
+use Rattle.home.specs.Layout.{totalAfter}
 use Rattle.home.specs.Bytes.{decode}
 use Rattle.home.specs.Sound.{sized, sound, pagesOf, listOf}
-use Rattle.room.specs.Spans.{isSome}
 use Rattle.reads.specs.Merges.{mergedOf}
 
 pub data Rule : Type 0 where
@@ -51,14 +50,14 @@ recoverRules l = rule 1 (not (headOk l)) ∷ rule 4 (eqb (mark l) 165 && not (lo
 unfoldable pub formatRules : List ℕ → ℕ → ℕ → List Rule
 formatRules l L R = rule 14 (not (inRange L R && eqb (length l) (imageLength L R))) ∷ []
 
--- "8: put, primary part already listed", "10: put to a list of 989", "11: put, new tag, 256 present", "12: put, no room"
+-- "8: put, primary part already listed", "10: put to a list of 989", "11: put, new tag, 256 present"; 12: "the sizes of all blocks after the edit add up to more than the record area"
 unfoldable pub putRules : List ℕ → ℕ → Record → List Rule
 unfolding spaceRules
 putRules w t r =
     spaceRules w ++ rule 8 (held (look (key r) (listOf w t)))
     ∷ rule 10 (not (ltb (length (listOf w t)) 989))
     ∷ rule 11 (not (hasTag t (blocks (decode w)) || ltb (length (blocks (decode w))) 256))
-    ∷ rule 12 (not (isSome (change (8 * pagesOf w) t (insert r (listOf w t)) (decode w))))
+    ∷ rule 12 (ltb (8 * pagesOf w) (totalAfter t (insert r (listOf w t)) (decode w)))
     ∷ []
 
 -- "9: delete or set, no such record", by its key; "drop, no such tag"

@@ -1,33 +1,32 @@
 -- Each call is refused with the lowest number that applies, and only then.
-use mathlib.Core.Path.{_≡_, refl, ap, _∙_}
+use mathlib.Core.Path.{_≡_, refl, sym, ap, _∙_}
 use mathlib.Core.Bool.{Bool, true, false, not, _&&_, _||_}
-use Prim.Native.Nat.{ℕ, suc, _*_, _≤_, _<_}
+use Prim.Native.Nat.{ℕ, suc, _+_, _*_, _≤_, _<_}
 use native.Mathlib.Omega.{arith}
 use mathlib.Core.List.{List, [], _∷_, _++_}
 use mathlib.Core.Option.{Option, none, some}
 use lib.ListN.{length}
 use lib.Dec.{eqb, leb, ltb}
-use borrow.Author.Tests.{eqb-true}
+use borrow.Author.Tests.{eqb-true, ltb-true, lt-ltb, le-ltb, lt-leb, le-leb}
 use Rattle.wire.specs.Bytes.{pick}
-use Rattle.wire.specs.Cases.{by-test}
+use Rattle.wire.specs.Cases.{by-test, by-lt}
 use Rattle.records.specs.declared.Record.{Record}
 use Rattle.records.specs.declared.Merge.{Merge}
-use Rattle.records.specs.Records.{key, look, held, insert, remove, amend}
+use Rattle.records.specs.Records.{Fits, key, look, held, insert, remove, amend}
 use Rattle.redo.specs.Image.{capacity, mark, pages, homeAt, home, headOk, inRange, imageLength}
 use Rattle.redo.specs.Stores.{clearMark, commitStores, recoverStores, formatStores}
 use Rattle.log.specs.Head.{headOf}
 use Rattle.log.specs.Calls.{refuse, store, clearPlan, commitPlan, changed, committedPlan, recoverPlan, logOf, logOk, formatPlan}
 use Rattle.home.specs.Zones.{Zone, blocks, hasTag, find}
-use Rattle.home.specs.Layout.{change}
-use Rattle.home.specs.Edits.{settle, put, delete, setMinutes, dropTag}
-use Rattle.home.specs.EditsLaws.{length-remove, length-amend, has-held, shorter}
+use Rattle.home.specs.Layout.{Valid, change, totalAfter}
+use Rattle.home.specs.Edits.{edited, put, delete, setMinutes, dropTag}
+use Rattle.home.specs.EditsLaws.{length-remove, length-amend, insert-listed, valid-listed, has-held, shorter, exactly}
 use Rattle.home.specs.Bytes.{decode}
 use Rattle.home.specs.Sound.{sized, sound, pagesOf, listOf}
-use Rattle.room.specs.Spans.{isSome}
+use Rattle.home.specs.Cases.{isSome, some-is}
 use Rattle.edits.specs.declared.Answer.{Answer}
 use Rattle.edits.specs.declared.Answer.the-variants.{Count, Refused}
 use Rattle.zones.specs.SoundLaws.{sound-valid}
-use Rattle.lists.specs.RecordLaws.{some-is}
 use Rattle.edits.specs.EditsLaws.{drop-some}
 use Rattle.edits.specs.Edits.{told, putIn, deleteIn, setIn, dropIn}
 use Rattle.gates.specs.declared.Gate.{Gate}
@@ -119,38 +118,53 @@ merge-space-lowest m w t u out = gated-through (spaceGate w) (fitted (mergedOf m
 
 -- ---- edits
 
-settle-told : (m : ℕ) (zs : List Zone) (o : Option (List Zone)) → told (settle m zs o .answer) ≡ lowest Refused (rule 12 (not (isSome o)) ∷ []) (Count m)
-unfolding settle told isSome lowest
-settle-told m zs none = refl
-settle-told m zs (some zs') = refl
+edited-told : (m : ℕ) (zs : List Zone) (o : Option (List Zone)) → told (edited m zs o .answer) ≡ lowest Refused (rule 12 (not (isSome o)) ∷ []) (Count m)
+unfolding edited told isSome lowest
+edited-told m zs none = refl
+edited-told m zs (some zs') = refl
 
 -- it is never 12 where there is room
-settle-count : (m : ℕ) (zs : List Zone) (o : Option (List Zone)) → isSome o ≡ true → told (settle m zs o .answer) ≡ Count m
+edited-count : (m : ℕ) (zs : List Zone) (o : Option (List Zone)) → isSome o ≡ true → told (edited m zs o .answer) ≡ Count m
 unfolding lowest
-settle-count m zs o i = settle-told m zs o ∙ rw i refl
+edited-count m zs o i = edited-told m zs o ∙ rw i refl
 
-put-told : (w : List ℕ) (t : ℕ) (r : Record) → told (putIn w t r .answer)
-    ≡ lowest Refused
-    (rule 8 (held (look (key r) (listOf w t)))
-    ∷ rule 10 (not (ltb (length (listOf w t)) 989))
-    ∷ rule 11 (not (hasTag t (blocks (decode w)) || ltb (length (blocks (decode w))) 256))
-    ∷ rule 12 (not (isSome (change (8 * pagesOf w) t (insert r (listOf w t)) (decode w))))
-    ∷ [])
-    (Count (suc (length (listOf w t))))
-unfolding put listOf told lowest
-put-told w t r =
-    let rs : List Record = find t (blocks (decode w)) in
-    by-test (held (look (key r) rs))
-    (λ h. rw h refl)
-    (λ h. by-test (ltb (length rs) 989)
-    (λ g. by-test (hasTag t (blocks (decode w)) || ltb (length (blocks (decode w))) 256)
-    (λ f. rw (h, g, f) (settle-told (suc (length rs)) (decode w) (change (8 * pagesOf w) t (insert r rs) (decode w))))
-    (λ f. rw (h, g, f) refl))
-    (λ g. rw (h, g) refl))
+not-leb : (a b : ℕ) → not (leb a b) ≡ ltb b a
+not-leb a b = by-lt b a (λ g. ap not (lt-leb a b g) ∙ sym (lt-ltb b a g)) (λ g. ap not (le-leb a b g) ∙ sym (le-ltb b a g))
 
-pub put-lowest : (w : List ℕ) (t : ℕ) (r : Record) → putAnswer w t r ≡ lowest Refused (putRules w t r) (Count (suc (length (listOf w t))))
-unfolding putAnswer putRules
-put-lowest w t r = gated-through (spaceGate w) (told (putIn w t r .answer)) ∙ through-space Refused w _ _ _ (λ s. put-told w t r)
+module _ (w : List ℕ) (t : ℕ) (r : Record) (small : t < 4294967296) (fits : Fits r) where
+  -- no room is too much
+  too-much : sound w ≡ true → held (look (key r) (listOf w t)) ≡ false → ltb (length (listOf w t)) 989 ≡ true
+      → not (isSome (change (8 * pagesOf w) t (insert r (listOf w t)) (decode w))) ≡ ltb (8 * pagesOf w) (totalAfter t (insert r (listOf w t)) (decode w))
+  unfolding listOf
+  too-much s h g =
+      let rs : List Record = find t (blocks (decode w)) in
+      let v : Valid (8 * pagesOf w) (decode w) = sound-valid w s in
+      ap not (exactly (8 * pagesOf w) t (decode w) v small (insert r rs) (insert-listed r rs fits h (ltb-true (length rs) 989 g) (valid-listed (8 * pagesOf w) t (decode w) v)))
+      ∙ not-leb (totalAfter t (insert r rs) (decode w)) (8 * pagesOf w)
+
+  put-told : sound w ≡ true → told (putIn w t r .answer)
+      ≡ lowest Refused
+      (rule 8 (held (look (key r) (listOf w t)))
+      ∷ rule 10 (not (ltb (length (listOf w t)) 989))
+      ∷ rule 11 (not (hasTag t (blocks (decode w)) || ltb (length (blocks (decode w))) 256))
+      ∷ rule 12 (ltb (8 * pagesOf w) (totalAfter t (insert r (listOf w t)) (decode w)))
+      ∷ [])
+      (Count (suc (length (listOf w t))))
+  unfolding put listOf told lowest
+  put-told s =
+      let rs : List Record = find t (blocks (decode w)) in
+      by-test (held (look (key r) rs))
+      (λ h. rw h refl)
+      (λ h. by-test (ltb (length rs) 989)
+      (λ g. by-test (hasTag t (blocks (decode w)) || ltb (length (blocks (decode w))) 256)
+      (λ f. rw (h, g, f)
+      (edited-told (suc (length rs)) (decode w) (change (8 * pagesOf w) t (insert r rs) (decode w)) ∙ ap (λ (x : Bool). lowest Refused (rule 12 x ∷ []) (Count (suc (length rs)))) (too-much s h g)))
+      (λ f. rw (h, g, f) refl))
+      (λ g. rw (h, g) refl))
+
+  pub put-lowest : putAnswer w t r ≡ lowest Refused (putRules w t r) (Count (suc (length (listOf w t))))
+  unfolding putAnswer putRules
+  put-lowest = gated-through (spaceGate w) (told (putIn w t r .answer)) ∙ through-space Refused w _ _ _ (λ s. put-told s)
 
 -- the others find room, so that "A delete never meets it"
 module _ (w : List ℕ) (t : ℕ) (small : t < 4294967296) where
@@ -166,7 +180,7 @@ module _ (w : List ℕ) (t : ℕ) (small : t < 4294967296) where
   delete-told : (k : ℕ) → sound w ≡ true → told (deleteIn w t k .answer) ≡ lowest Refused (rule 9 (not (held (look k (listOf w t)))) ∷ []) (Count (length (remove k (listOf w t))))
   unfolding delete listOf told lowest
   delete-told k s = by-test (held (look k rs))
-      (λ h. rw h (settle-count (length (remove k rs)) zs (change (8 * pagesOf w) t (remove k rs) zs) (no-longer k (remove k rs) s h (length-remove k rs))))
+      (λ h. rw h (edited-count (length (remove k rs)) zs (change (8 * pagesOf w) t (remove k rs) zs) (no-longer k (remove k rs) s h (length-remove k rs))))
       (λ h. rw h refl)
 
   pub delete-lowest : (k : ℕ) → deleteAnswer w t k ≡ lowest Refused (recordRules w t k) (Count (length (remove k (listOf w t))))
@@ -176,7 +190,7 @@ module _ (w : List ℕ) (t : ℕ) (small : t < 4294967296) where
   set-told : (k m : ℕ) → sound w ≡ true → told (setIn w t k m .answer) ≡ lowest Refused (rule 9 (not (held (look k (listOf w t)))) ∷ []) (Count (length (listOf w t)))
   unfolding setMinutes listOf told lowest
   set-told k m s = by-test (held (look k rs))
-      (λ h. rw h (settle-count (length rs) zs (change (8 * pagesOf w) t (amend k m rs) zs) (no-longer k (amend k m rs) s h (omega (arith, length-amend k m rs)))))
+      (λ h. rw h (edited-count (length rs) zs (change (8 * pagesOf w) t (amend k m rs) zs) (no-longer k (amend k m rs) s h (omega (arith, length-amend k m rs)))))
       (λ h. rw h refl)
 
   pub set-lowest : (k m : ℕ) → setAnswer w t k m ≡ lowest Refused (recordRules w t k) (Count (length (listOf w t)))
@@ -185,7 +199,7 @@ module _ (w : List ℕ) (t : ℕ) (small : t < 4294967296) where
 
   drop-told : told (dropIn w t .answer) ≡ lowest Refused (rule 9 (not (hasTag t (blocks zs))) ∷ []) (Count 0)
   unfolding dropTag told lowest
-  drop-told = by-test (hasTag t (blocks zs)) (λ h. rw h (settle-count 0 zs (change (8 * pagesOf w) t [] zs) (drop-some (8 * pagesOf w) t zs))) (λ h. rw h refl)
+  drop-told = by-test (hasTag t (blocks zs)) (λ h. rw h (edited-count 0 zs (change (8 * pagesOf w) t [] zs) (drop-some (8 * pagesOf w) t zs))) (λ h. rw h refl)
 
   pub drop-lowest : dropAnswer w t ≡ lowest Refused (dropRules w t) (Count 0)
   unfolding dropAnswer dropRules

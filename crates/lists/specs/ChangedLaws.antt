@@ -14,12 +14,11 @@ use Rattle.wire.specs.Cases.{never}
 use Rattle.records.specs.declared.Record.{Record}
 use Rattle.records.specs.Records.{encode as recordBytes, decode as recordsIn}
 use Rattle.records.specs.Edits.{length-encode, decode-encode}
-use Rattle.room.specs.Spans.{isSome}
+use Rattle.home.specs.Cases.{isSome, Holds}
 use Rattle.home.specs.Capacities.{cells, classOf}
 use Rattle.home.specs.CapacitiesLaws.{cells-pos}
-use Rattle.home.specs.Zones.{Block, Zone, zone, blocks, hasTag, find, place, takeOut, rewritten, change as changeBy}
+use Rattle.home.specs.Zones.{Block, Zone, zone, blocks, hasTag, find, takeOut, rewritten, settle, change as changeBy}
 use Rattle.home.specs.Layout.{change}
-use Rattle.home.specs.Cases.{Holds}
 use Rattle.home.specs.FindLaws.{Lacks, has-skip}
 use Rattle.home.specs.PermLaws.{plength}
 use Rattle.home.specs.TakeLaws.{Taken, TakenOut, takeOut-taken, takeOut-valid}
@@ -36,7 +35,8 @@ use Rattle.moves.specs.CloseLaws.{decode-loose, pages-loose}
 use Rattle.zones.specs.SoundLaws.{valid-loose, sound-small, sound-some, sound-valid}
 use Rattle.zones.specs.Known.{Known}
 use Rattle.zones.specs.KnownLaws.{rewritten-there}
-use Rattle.zones.specs.Place.{Placeable, placedIn}
+use Rattle.zones.specs.Place.{Placeable}
+use Rattle.zones.specs.Afresh.{settledIn}
 use Rattle.lists.specs.Listed.{Listed, Moving, changed}
 use Rattle.lists.specs.ListedLaws.{listed-has, listed-known, listed-lying, listed-many}
 
@@ -103,7 +103,7 @@ module _ (h : List ℕ) (t p n : ℕ) (l : Listed h t p n) where
 
   -- ---- in a block of another class
 
-  other-class : (rs : List Record) → 0 < length rs → classOf (length rs) ≢ classOf n → change (8 * R) t rs zs ≡ place cells (8 * R) 0 0 (classOf (length rs)) (record { tag = t; list = rs }) (takeOut cells t 0 0 zs)
+  other-class : (rs : List Record) → 0 < length rs → classOf (length rs) ≢ classOf n → change (8 * R) t rs zs ≡ settle cells (8 * R) (classOf (length rs)) (record { tag = t; list = rs }) (takeOut cells t 0 0 zs)
   unfolding changeBy
   other-class [] g e = absurd (omega arith)
   other-class (r ∷ rs) g e = rw (listed-has h t p n l, ne-eqb (classOf (length (find t (blocks zs)))) (classOf (length (r ∷ rs))) (λ q. e (sym q ∙ same-class)))
@@ -146,16 +146,16 @@ module _ (h : List ℕ) (t p n : ℕ) (l : Listed h t p n) where
       }
 
       -- where there is room
-      moved-changed : (x : List ℕ) → 0 < length rs → classOf (length rs) ≢ classOf n → isSome (change (8 * R) t rs zs) ≡ true → x ≡ settled (pagesOf h') h' [] (placedIn h' t bs) → x ≡ changed h t rs
+      moved-changed : (x : List ℕ) → 0 < length rs → classOf (length rs) ≢ classOf n → isSome (change (8 * R) t rs zs) ≡ true → x ≡ settled (pagesOf h') h' [] (settledIn h' t bs) → x ≡ changed h t rs
       moved-changed x g d i y =
-          let s : placedIn h' t bs ≡ change (8 * R) t rs zs = rw (read, many, pages, zones) (sym (other-class rs g d)) in
+          let s : settledIn h' t bs ≡ change (8 * R) t rs zs = rw (read, many, pages, zones) (sym (other-class rs g d)) in
           y ∙ ap₂ (λ (m : ℕ) (o : Option (List Zone)). settled m h' [] o) pages s ∙ settled-any R h' h (change (8 * R) t rs zs) i
 
 module _ (h : List ℕ) (t p n : ℕ) (bs : List ℕ) (m : Moving h t p n bs) (h' : List ℕ) (q : h' ≡ encode (pagesOf h) (takeOut cells t 0 0 (decode h))) where
   pub moving-placeable : Placeable h' t bs
   moving-placeable = moved-placeable h t p n (m .listed) h' q (m .list) (m .proper) bs (m .bytes) (m .some)
 
-  pub moving-changed : (x : List ℕ) → x ≡ settled (pagesOf h') h' [] (placedIn h' t bs) → x ≡ changed h t (recordsIn bs)
+  pub moving-changed : (x : List ℕ) → x ≡ settled (pagesOf h') h' [] (settledIn h' t bs) → x ≡ changed h t (recordsIn bs)
   moving-changed x y =
       moved-changed h t p n (m .listed) h' q (m .list) (m .proper) bs (m .bytes) x (m .some) (m .class) (m .room) y
       ∙ ap (changed h t) (sym (list-read (m .list) (m .proper) bs (m .bytes)))

@@ -7,7 +7,7 @@ use Prim.Native.Nat.{ℕ, suc, _*_, _<_}
 use lib.ListN.{length, take, drop}
 use Rattle.records.specs.declared.Record.{Record}
 use Rattle.records.specs.Records.{Fits, key, look, held, rank, encode as recordBytes}
-use Rattle.room.specs.Spans.{isSome}
+use Rattle.home.specs.Cases.{isSome}
 use Rattle.home.specs.Capacities.{classOf}
 use Rattle.home.specs.Layout.{change}
 use Rattle.home.specs.ChangeLaws.{Listed as Proper}

@@ -2,7 +2,7 @@
 use mathlib.Core.Path.{_≡_, refl, sym, ap, ap₂, _∙_, subst}
 use mathlib.Core.Bool.{true}
 use mathlib.Core.Logic.{_≢_}
-use mathlib.Core.Option.{Option, none, some, IsSome}
+use mathlib.Core.Option.{some}
 use mathlib.Core.List.{List, [], _∷_, _++_}
 use Prim.Native.Nat.{ℕ, suc, _+_, _-_, _*_, _≤_, _<_}
 use native.Mathlib.Omega.{arith}
@@ -11,7 +11,7 @@ use lib.Seq.{take-at}
 use Rattle.records.specs.declared.Record.{Record}
 use Rattle.records.specs.Records.{key, held, rank, insert, remove, amend, encode as recordBytes, decode as recordsIn}
 use Rattle.records.specs.Order.{remove-at, rank-length}
-use Rattle.room.specs.Spans.{isSome}
+use Rattle.home.specs.Cases.{isSome, some-is}
 use Rattle.home.specs.Capacities.{cells, capacity, classOf}
 use Rattle.home.specs.CapacitiesLaws.{cells-is, class-holds}
 use Rattle.home.specs.Zones.{Block, takeOut}
@@ -32,11 +32,6 @@ use Rattle.lists.specs.ChangedLaws.{list-read, changed-here, changed-non
 -- what was written to the front of a longer run
 pub front-is : (e : ℕ) (ys post v : List ℕ) → ys ≡ v → length v ≡ e → take (e - 0) (ys ++ post) ≡ v
 front-is e ys post v q l = take-at ys post (e - 0) (ap length q ∙ omega arith) ∙ q
-
-pub some-is : {A : Type 0} (o : Option A) → IsSome o → isSome o ≡ true
-unfolding isSome
-some-is none i = absurd i
-some-is (some x) i = refl
 
 proper : (h : List ℕ) (t p n : ℕ) (l : Listed h t p n) → Proper (listOf h t)
 proper h t p n l = let s = listed-lying h t p n l .sits in record { rising = s .rising; fits = s .fits; short = omega (arith, listed-many h t p n l, listed-most h t p n l) }
@@ -131,7 +126,7 @@ module _ (h : List ℕ) (t p n j : ℕ) (r : Record) (k : Placed h t p n j r) wh
   new-many = length-insert r old ∙ omega (arith, count)
 
   module _ (short : n < 989) where
-    new-proper : Proper new
+    pub new-proper : Proper new
     new-proper = insert-listed r old (k .fits) (k .held) (omega (arith, count)) (proper h t p n (k .listed))
 
     -- the class stays: there is a free cell

@@ -4,7 +4,7 @@ use crate::here::remove_aside;
 use crate::here::remove_here;
 use home::classes::class_of;
 use records::Record;
-use zones::place::place;
+use zones::afresh::settle;
 use zones::take::take_out;
 ghost use mathlib.Core.Path.{_≡_};
 ghost use mathlib.Core.Bool.{true};
@@ -16,7 +16,7 @@ ghost use Rattle.home.specs.Capacities.{classOf};
 ghost use Rattle.home.specs.Bytes.{decode};
 ghost use Rattle.home.specs.Sound.{pagesOf, listOf};
 ghost use Rattle.home.specs.Layout.{change};
-ghost use Rattle.room.specs.Spans.{isSome};
+ghost use Rattle.home.specs.Cases.{isSome};
 ghost use Rattle.lists.specs.Listed.{Ranked, Placed, Moving, changed, without};
 
 // The tag's list becomes this one, in a block of another class, for which there is room.
@@ -25,7 +25,7 @@ fn move_list(home: &mut [u8], tag: u32, p: usize, n: usize, list: &[u8])
     ensures { λ _. ⌜ now (home .exit) ≡ changed (now (home .entry)) tag (recordsIn (now (list .entry))) ⌝ }
 {
     take_out(home, tag, class_of(n), p);
-    place(home, tag, list);
+    settle(home, tag, list);
 }
 
 // The list with a record put in at rank j goes to a block of another class, for which there is room. It is made aside.

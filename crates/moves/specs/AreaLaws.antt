@@ -68,7 +68,7 @@ clear8 : (i n j m : ℕ) → Clear i n j m → Clear (8 * i) (8 * n) (8 * j) (8 
 clear8 i n j m (inl h) = inl (omega arith)
 clear8 i n j m (inr h) = inr (omega arith)
 
-apart-sym : (s t : Spot) → Apart s t → Apart t s
+pub apart-sym : (s t : Spot) → Apart s t → Apart t s
 apart-sym s t (inl h) = inr h
 apart-sym s t (inr h) = inl h
 
@@ -84,7 +84,7 @@ module _ (n : ℕ) (a : List ℕ) (la : length a ≡ 8 * n) where
   inside : (s : Spot) (ss : List Spot) → Good n s → 8 * s .cell + length (bytesOf s) ≤ length (paint ss a)
   inside s ss g = omega (arith, length-block (s .class) (s .block) (g .room), g .inside, length-paint ss a)
 
-  paint-perm : {ss ts : List Spot} → Perm ss ts → All (Good n) ss → Pairs Apart ss → paint ss a ≡ paint ts a
+  pub paint-perm : {ss ts : List Spot} → Perm ss ts → All (Good n) ss → Pairs Apart ss → paint ss a ≡ paint ts a
   unfolding paint
   paint-perm pnil g h = refl
   paint-perm (pskip s p) (more x g) (after y h) = ap (λ (l : List ℕ). over l (8 * s .cell) (bytesOf s)) (paint-perm p g h)
@@ -95,7 +95,7 @@ module _ (n : ℕ) (a : List ℕ) (la : length a ≡ 8 * n) where
   paint-perm (ptrans p q) g h = paint-perm p g h ∙ paint-perm q (pall (Good n) p g) (ppairs Apart apart-sym p h)
 
 -- a block taken away: its cells become zero
-paint-gone : (n : ℕ) (s : Spot) (ss : List Spot) → Good n s → All (Good n) ss → All (Apart s) ss
+pub paint-gone : (n : ℕ) (s : Spot) (ss : List Spot) → Good n s → All (Good n) ss → All (Apart s) ss
     → over (paint (s ∷ ss) (replicate (8 * n) 0)) (8 * s .cell) (replicate (8 * cells (s .class)) 0) ≡ paint ss (replicate (8 * n) 0)
 unfolding paint
 paint-gone n s ss g gs h =

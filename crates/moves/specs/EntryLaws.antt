@@ -60,7 +60,7 @@ unfolding enter
 enter-perm x [] = prefl (x ∷ [])
 enter-perm x (y ∷ ys) = by-pick (λ (l : List Entry). Perm l (x ∷ y ∷ ys)) (ltb (x .tag) (y .tag)) (λ t. prefl (x ∷ y ∷ ys)) (λ t. ptrans (pskip y (enter-perm x ys)) (pswap y x ys))
 
-perm-sorted : (xs : List Entry) → Perm (sorted xs) xs
+pub perm-sorted : (xs : List Entry) → Perm (sorted xs) xs
 unfolding sorted
 perm-sorted [] = pnil
 perm-sorted (x ∷ xs) = ptrans (enter-perm x (sorted xs)) (pskip x (perm-sorted xs))

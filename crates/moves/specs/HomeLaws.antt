@@ -32,13 +32,13 @@ pub record Loose (R : ℕ) (zs : List Zone) : Type 0 where
   pub distinct : Pairs Other (blocks zs)
   pub few : length (blocks zs) ≤ 256
 
-pmap : {A B : Type 0} (f : A → B) {xs ys : List A} → Perm xs ys → Perm (map f xs) (map f ys)
+pub pmap : {A B : Type 0} (f : A → B) {xs ys : List A} → Perm xs ys → Perm (map f xs) (map f ys)
 pmap f pnil = pnil
 pmap f (pskip x p) = pskip (f x) (pmap f p)
 pmap f (pswap x y xs) = pswap (f x) (f y) (map f xs)
 pmap f (ptrans p q) = ptrans (pmap f p) (pmap f q)
 
-small-entries : (R : ℕ) (ss : List Spot) → R ≤ 1024 → All (λ (s : Spot). Sits (s .class) (s .block)) ss → All (Good (8 * R)) ss → All Small (map entryOf ss)
+pub small-entries : (R : ℕ) (ss : List Spot) → R ≤ 1024 → All (λ (s : Spot). Sits (s .class) (s .block)) ss → All (Good (8 * R)) ss → All Small (map entryOf ss)
 small-entries R [] g h k = none
 small-entries R (s ∷ ss) g (more a h) (more b k) = more {x = entryOf s} (record { tag = a .tag; cell = omega (arith, b .inside, cells-pos (s .class)) }) (small-entries R ss g h k)
 

@@ -13,3 +13,7 @@ pub mod RoomLaws
 pub mod CodeLaws
 pub mod Close
 pub mod CloseLaws
+pub mod HeldLaws
+pub mod Slide
+pub mod SlideLaws
+pub mod SlideCode

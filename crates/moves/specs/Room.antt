@@ -11,7 +11,7 @@ use Rattle.home.specs.Capacities.{cells}
 use Rattle.home.specs.Zones.{Zone, endOf, shift}
 use Rattle.home.specs.Bytes.{encode, decode}
 use Rattle.home.specs.Sound.{pagesOf}
-use Rattle.room.specs.Spans.{isSome}
+use Rattle.home.specs.Cases.{isSome}
 use Rattle.moves.specs.HomeLaws.{Loose}
 
 -- home's bytes with these zones above ls, or as they were

@@ -17,7 +17,7 @@ use Rattle.home.specs.Zones.{Block, Zone, empty, from, blocks, lifted, endOf, s
 use Rattle.home.specs.Perm.{Perm}
 use Rattle.home.specs.PermLaws.{prefl, pleft, pall}
 use Rattle.home.specs.Layout.{Fit}
-use Rattle.home.specs.Cases.{by-pick, Holds}
+use Rattle.home.specs.Cases.{by-pick, Holds, isSome}
 use Rattle.home.specs.PlaceLaws.{length-snoc}
 use Rattle.home.specs.Bytes.{Spot, row, spots, encode, cellAt, firstAt, manyAt}
 use Rattle.home.specs.AreaLaws.{Good, spots-good, fit-le}
@@ -26,7 +26,6 @@ use Rattle.moves.specs.SpotLaws.{spot, in-context, liftedTo, liftedFirst
 use Rattle.moves.specs.HomeLaws.{Loose}
 use Rattle.moves.specs.StepLaws.{firstOf, manyOf, home-lifted}
 use Rattle.moves.specs.Room.{settled, above, endAfter, liftTo, liftFirst, Ready}
-use Rattle.room.specs.Spans.{isSome}
 use Rattle.moves.specs.LooseLaws.{movable, zone-at, length-loose, fit-lower, fit-above, loose-joined, Shifted, shift-fit}
 
 -- ---- a layout at zone c

@@ -52,7 +52,7 @@ zone-written ls z z' hs =
     ∙ over-seam (entries ls) (entryBytes z) (entries hs) (entryBytes z') (4 * length ls) (length-entries ls) (length-entry z ∙ sym (length-entry z'))
     ∙ sym (entries-append ls (z' ∷ hs) ∙ ap (λ (l : List ℕ). entries ls ++ l) (entries-cons z' hs))
 
-zone-set : (ls : List Zone) (z z' : Zone) (hs : List Zone) (f k : ℕ) → firstOf z' ≡ f → manyOf z' ≡ k → over (entries (ls ++ z ∷ hs)) (4 * length ls) (bytes16 f ++ bytes16 k) ≡ entries (ls ++ z' ∷ hs)
+pub zone-set : (ls : List Zone) (z z' : Zone) (hs : List Zone) (f k : ℕ) → firstOf z' ≡ f → manyOf z' ≡ k → over (entries (ls ++ z ∷ hs)) (4 * length ls) (bytes16 f ++ bytes16 k) ≡ entries (ls ++ z' ∷ hs)
 zone-set ls z z' hs f k a b = ap₂ (λ (x y : ℕ). over (entries (ls ++ z ∷ hs)) (4 * length ls) (bytes16 x ++ bytes16 y)) (sym a) (sym b) ∙ zone-written ls z z' hs
 
 pub class-below : (ls : List Zone) (z : Zone) (hs : List Zone) → length (ls ++ z ∷ hs) ≡ 30 → length ls < 30

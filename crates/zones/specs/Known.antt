@@ -2,7 +2,7 @@
 use mathlib.Core.Path.{_≡_}
 use mathlib.Core.Bool.{false}
 use mathlib.Core.List.{List, _∷_, _++_}
-use Prim.Native.Nat.{ℕ, suc, _+_, _*_, _≤_}
+use Prim.Native.Nat.{ℕ, zero, suc, _+_, _*_, _≤_}
 use lib.Dec.{ltb}
 use lib.ListN.{length, take, drop, replicate}
 use Rattle.wire.specs.Bytes.{pick, over}
@@ -32,6 +32,11 @@ pub record Known (R : ℕ) (h : List ℕ) (zs : List Zone) (t c p : ℕ) : Type 
   -- it is the first one
   pub none-lower : hasTag t (blocks lower) ≡ false
   pub none-before : hasTag t before ≡ false
+
+-- the first cell of a zone from f on with so many blocks: "an empty zone has first cell 0"
+unfoldable pub firstIf : ℕ → ℕ → ℕ
+firstIf f zero = 0
+firstIf f (suc n) = f
 
 -- a zone without tag t's block
 unfoldable pub lacking : ℕ → Zone → Zone

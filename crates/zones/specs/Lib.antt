@@ -5,3 +5,6 @@ pub mod BlockLaws
 pub mod OutLaws
 pub mod Place
 pub mod PlaceLaws
+pub mod Afresh
+pub mod AfreshLaws
+pub mod AfreshCode

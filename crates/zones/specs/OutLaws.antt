@@ -11,7 +11,6 @@ use Rattle.wire.specs.Bytes.{over, get16}
 use Rattle.wire.specs.All.{all-tail}
 use Rattle.home.specs.Capacities.{cells}
 use Rattle.home.specs.CapacitiesLaws.{cells-pos}
-use Rattle.room.specs.Steps.{firstIf}
 use Rattle.home.specs.Zones.{Block, Zone, empty, zone, blocks, hasTag, lastOf, initOf, turned, endOf, close, takeOut}
 use Rattle.home.specs.Perm.{Perm, pskip, ptrans, Pairs}
 use Rattle.home.specs.PermLaws.{psym, pleft, pright, pfront, plength, pall, pairs-tail}
@@ -30,7 +29,7 @@ use Rattle.moves.specs.Room.{endAfter, Stored}
 use Rattle.moves.specs.RoomLaws.{take-here, take-next, drop-next, zone-here, end-next}
 use Rattle.moves.specs.Close.{zoneOf, closedBytes, Open}
 use Rattle.moves.specs.CloseLaws.{decode-loose, pages-loose}
-use Rattle.zones.specs.Known.{Known, lacking, outBytes, filled}
+use Rattle.zones.specs.Known.{firstIf, Known, lacking, outBytes, filled}
 use Rattle.zones.specs.KnownLaws.{lacking-there, takeOut-there}
 use Rattle.zones.specs.BlockLaws.{Lying, known-spots, known-lying, others-of}
 use Rattle.moves.specs.StepLaws.{firstOf, manyOf, first-zone, many-zone, fill-spots, home-last-gone, home-place-filled}
@@ -93,7 +92,11 @@ unfolding firstOf zone firstIf
 first-of f [] = refl
 first-of f (x ∷ xs) = refl
 
-first-some : (f n : ℕ) → 0 < n → firstIf f n ≡ f
+pub first-none : (f n : ℕ) → n ≡ 0 → firstIf f n ≡ 0
+unfolding firstIf
+first-none f n q = rw q refl
+
+pub first-some : (f n : ℕ) → 0 < n → firstIf f n ≡ f
 unfolding firstIf
 first-some f zero g = absurd (omega arith)
 first-some f (suc n) g = refl

@@ -6,12 +6,14 @@ use mathlib.Core.List.{List, _∷_, _++_}
 use Prim.Native.Nat.{ℕ, _+_, _*_, _-_, _/_, _≤_, _<_}
 use lib.Dec.{eqb}
 use lib.ListN.{length, replicate}
-use Rattle.wire.specs.Bytes.{pick, bytes16, bytes32}
+use Rattle.wire.specs.Bytes.{pick, over, get16, bytes16, bytes32}
 use Rattle.records.specs.Records.{rising, decode as recordsIn}
 use Rattle.home.specs.Capacities.{cells, classOf}
 use Rattle.home.specs.Zones.{Block, Zone, blocks, hasTag, place}
-use Rattle.home.specs.Bytes.{decode}
+use Rattle.home.specs.Bytes.{decode, cellAt, firstAt, manyAt}
 use Rattle.home.specs.Sound.{pagesOf, sound}
+use Rattle.home.specs.Lookup.{Ordered}
+use Rattle.moves.specs.Moves.{zoned, entered}
 
 -- a whole block of class c: tag t and the bytes bs of its list
 unfoldable pub blockOf : ℕ → ℕ → List ℕ → List ℕ
@@ -21,6 +23,19 @@ blockOf c t bs = bytes32 t ++ (bytes16 (length bs / 8) ++ (0 ∷ 0 ∷ (bs ++ re
 -- the first cell of a zone of n blocks from f on, once a block is put in at p
 unfoldable pub firstWith : ℕ → ℕ → ℕ → ℕ
 firstWith n f p = pick (eqb n 0) p f
+
+-- room at cell p for a block of class c with tag t and the bytes bs of its list
+pub record RoomAt (h : List ℕ) (c p t : ℕ) (bs : List ℕ) : Type 0 where
+  pub class : c < 30
+  pub long : 1664 ≤ length h
+  pub inside : cellAt p + 8 * cells c ≤ length h
+  pub fits : length bs + 8 ≤ 8 * cells c
+  pub ordered : Ordered (over h (cellAt p) (blockOf c t bs))
+  pub few : get16 (over h (cellAt p) (blockOf c t bs)) 0 < 256
+
+-- home with that block, its tag's entry, and its zone's
+unfoldable pub withBlock : List ℕ → ℕ → ℕ → ℕ → List ℕ → List ℕ
+withBlock h c p t bs = zoned (entered (over h (cellAt p) (blockOf c t bs)) t p) c (firstWith (manyAt h c) (firstAt h c) p) (manyAt h c + 1)
 
 -- the block of tag t with the records in bs
 abbrev pub blockIn : ℕ → List ℕ → Block

@@ -15,8 +15,8 @@ ghost use Rattle.home.specs.Capacities.{cells as sizeOf};
 ghost use Rattle.home.specs.Bytes.{cellAt, decode};
 ghost use Rattle.home.specs.Sound.{pagesOf};
 ghost use Rattle.moves.specs.Room.{settled, endAfter, Stored};
-ghost use Rattle.room.specs.Spans.{isSome};
-ghost use Rattle.zones.specs.Place.{blockOf, firstWith, placedIn, Placeable};
+ghost use Rattle.home.specs.Cases.{isSome};
+ghost use Rattle.zones.specs.Place.{blockOf, firstWith, RoomAt, withBlock, placedIn, Placeable};
 
 // Where the zones below class c end: the end of the nearest nonempty one, or cell 0.
 pub fn end_below(home: &[u8], c: usize) -> usize
@@ -56,23 +56,30 @@ fn first_with(n: usize, f: usize, p: usize) -> usize
     if n == 0 { p } else { f }
 }
 
+// Writes a block of class c at cell p, where there is room for it, its tag's entry, and its zone's.
+pub fn put_block(home: &mut [u8], c: usize, p: usize, tag: u32, list: &[u8])
+    requires { ⌜ RoomAt (now home) c p tag (now list) ⌝ }
+    ensures { λ _. ⌜ now (home .exit) ≡ withBlock (now (home .entry)) c p tag (now (list .entry)) ⌝ }
+{
+    let n = zone_count(home, c);
+    let f = zone_first(home, c);
+    write_block(home, c, p, tag, list);
+    insert_entry(home, tag, p);
+    let first = first_with(n, f, p);
+    set_zone(home, c, first, n + 1);
+}
+
 // Places a block with this list for a tag that has none. Nothing is stored where there is no room.
 pub fn place(home: &mut [u8], tag: u32, list: &[u8]) -> bool
     requires { ⌜ Placeable (now home) tag (now list) ⌝ }
     ensures { λ r. ⌜ (r ≡ isSome (placedIn (now (home .entry)) tag (now (list .entry)))) × (now (home .exit) ≡ settled (pagesOf (now (home .entry))) (now (home .entry)) [] (placedIn (now (home .entry)) tag (now (list .entry)))) ⌝ }
 {
     let c = class_of(list.len() / 8);
-    let n = zone_count(home, c);
-    let f = zone_first(home, c);
     let p = end_below(home, c + 1);
-    let k = cells(c);
     let area = (home.len() - 1664) / 8;
-    if !make_room(home, c + 1, p + k, area) {
+    if !make_room(home, c + 1, p + cells(c), area) {
         return false;
     }
-    write_block(home, c, p, tag, list);
-    insert_entry(home, tag, p);
-    let first = first_with(n, f, p);
-    set_zone(home, c, first, n + 1);
+    put_block(home, c, p, tag, list);
     true
 }

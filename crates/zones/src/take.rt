@@ -7,7 +7,6 @@ use moves::close::close_up;
 use moves::move_block;
 use moves::remove_entry;
 use moves::set_zone;
-use room::first_if;
 ghost use mathlib.Core.Path.{_≡_};
 ghost use Prim.Native.Nat.{_+_, _*_, _≤_, _<_};
 ghost use lib.ListN.{length};
@@ -16,7 +15,14 @@ ghost use Rattle.home.specs.Zones.{takeOut};
 ghost use Rattle.home.specs.Bytes.{cellAt, encode, decode};
 ghost use Rattle.home.specs.Sound.{pagesOf};
 ghost use Rattle.moves.specs.Moves.{Movable};
-ghost use Rattle.zones.specs.Known.{Known, filled, outBytes};
+ghost use Rattle.zones.specs.Known.{Known, firstIf, filled, outBytes};
+
+// The first cell of a zone from this cell on with so many blocks: an empty one has 0.
+fn first_if(first: usize, count: usize) -> usize
+    ensures { λ r. ⌜ r ≡ firstIf first count ⌝ }
+{
+    if count == 0 { 0 } else { first }
+}
 
 // The place of a block of class c that is taken out: the zone's last block fills it, or it becomes zero if it is that one.
 fn fill_place(home: &mut [u8], c: usize, last: usize, p: usize)

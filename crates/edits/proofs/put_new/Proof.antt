@@ -21,23 +21,23 @@ slice-aggregate-insert c = search needs
 insert-requires : tie.Need-insert-requires
 insert-requires c κs = search needs
 
-slice-aggregate-place : tie.Need-slice-aggregate-place
-slice-aggregate-place c = search needs
+slice-aggregate-settle : tie.Need-slice-aggregate-settle
+slice-aggregate-settle c = search needs
 
-place-requires : tie.Need-place-requires
-place-requires c κs = new-placeable _ _ (c .before .before .before .before .before .before .before .before .before .pre .0) (c .before .before .before .before .before .before .before .before .before .pre .1) (λ q. c .before .before .before .before .before .if1 .left (c .before .before .before .before .before .before .get16 .ensures .0 ∙ q)) (c .before .before .before .before .before .before .before .before .before .args .r) (record { level = omega arith; second = omega arith; phone = omega arith; minutes = omega arith }) _ (c .before .before .before .insert .ensures ∙ inserted-alone _ _ refl)
+settle-requires : tie.Need-settle-requires
+settle-requires c κs = new-placeable _ _ (c .before .before .before .before .before .before .before .before .before .pre .0) (c .before .before .before .before .before .before .before .before .before .pre .1) (λ q. c .before .before .before .before .before .if1 .left (c .before .before .before .before .before .before .get16 .ensures .0 ∙ q)) (c .before .before .before .before .before .before .before .before .before .args .r) (record { level = omega arith; second = omega arith; phone = omega arith; minutes = omega arith }) _ (c .before .before .before .insert .ensures ∙ inserted-alone _ _ refl)
 
 same-length-2 : tie.Need-same-length-2
 same-length-2 c = search needs
 
 returns-2 : tie.Need-returns-2
-returns-2 c = new-done _ _ (c .before .before .before .before .before .before .before .before .before .before .before .before .before .pre .0) (c .before .before .before .before .before .before .before .before .before .before .before .before .before .pre .1) (λ q. c .before .before .before .before .before .before .before .before .before .if1 .left (c .before .before .before .before .before .before .before .before .before .before .get16 .ensures .0 ∙ q)) (c .before .before .before .before .before .before .before .before .before .before .before .before .before .args .r) (record { level = omega arith; second = omega arith; phone = omega arith; minutes = omega arith }) _ (c .before .before .before .before .before .before .before .insert .ensures ∙ inserted-alone _ _ refl) _ (sym (c .before .before .before .place .ensures .0) ∙ c .if2 .taken) (c .before .before .before .place .ensures .1)
+returns-2 c = new-done _ _ (c .before .before .before .before .before .before .before .before .before .before .before .before .before .pre .0) (c .before .before .before .before .before .before .before .before .before .before .before .before .before .pre .1) (λ q. c .before .before .before .before .before .before .before .before .before .if1 .left (c .before .before .before .before .before .before .before .before .before .before .get16 .ensures .0 ∙ q)) (c .before .before .before .before .before .before .before .before .before .before .before .before .before .args .r) (record { level = omega arith; second = omega arith; phone = omega arith; minutes = omega arith }) _ (c .before .before .before .before .before .before .before .insert .ensures ∙ inserted-alone _ _ refl) _ (sym (c .before .before .before .settle .ensures .0) ∙ c .if2 .taken) (c .before .before .before .settle .ensures .1)
 
 same-length-3 : tie.Need-same-length-3
 same-length-3 c = search needs
 
 returns-3 : tie.Need-returns-3
-returns-3 c = new-no-room _ _ (c .before .before .before .before .before .before .before .before .before .before .before .before .before .pre .0) (c .before .before .before .before .before .before .before .before .before .before .before .before .before .pre .1) (λ q. c .before .before .before .before .before .before .before .before .before .if1 .left (c .before .before .before .before .before .before .before .before .before .before .get16 .ensures .0 ∙ q)) (c .before .before .before .before .before .before .before .before .before .before .before .before .before .args .r) (record { level = omega arith; second = omega arith; phone = omega arith; minutes = omega arith }) _ (c .before .before .before .before .before .before .before .insert .ensures ∙ inserted-alone _ _ refl) _ (sym (c .before .before .before .place .ensures .0) ∙ c .if2 .left) (c .before .before .before .place .ensures .1)
+returns-3 c = new-no-room _ _ (c .before .before .before .before .before .before .before .before .before .before .before .before .before .pre .0) (c .before .before .before .before .before .before .before .before .before .before .before .before .before .pre .1) (λ q. c .before .before .before .before .before .before .before .before .before .if1 .left (c .before .before .before .before .before .before .before .before .before .before .get16 .ensures .0 ∙ q)) (c .before .before .before .before .before .before .before .before .before .before .before .before .before .args .r) (record { level = omega arith; second = omega arith; phone = omega arith; minutes = omega arith }) _ (c .before .before .before .before .before .before .before .insert .ensures ∙ inserted-alone _ _ refl) _ (sym (c .before .before .before .settle .ensures .0) ∙ c .if2 .left) (c .before .before .before .settle .ensures .1)
 
 pub put-new-spec : {M : Type 1} → statement M
 put-new-spec =
@@ -48,8 +48,8 @@ put-new-spec =
     returns
     slice-aggregate-insert
     insert-requires
-    slice-aggregate-place
-    place-requires
+    slice-aggregate-settle
+    settle-requires
     same-length-2
     returns-2
     same-length-3

@@ -1,23 +1,42 @@
 use mathlib.Core.Path.{_≡_}
-use native.Mathlib.Omega.{arith}
 use Prim.Native.Nat.{_-_, _*_, _/_}
+use native.Mathlib.Omega.{arith}
 use lib.ListN.{length}
 use Rattle.home.specs.Sound.{pagesOf}
+use Rattle.zones.specs.PlaceLaws.{stored-long}
 use borrow.Author.Needs.{needs}
 use Rattle.edits.proofs.room_after.Statement.{statement}
 use Rattle.edits.proofs.room_after.Tie as tie
 
 sub-area : tie.Need-sub-area
-sub-area c = search needs
+sub-area c = omega (arith, stored-long _ (c .before .pre .0))
 
-read-table-requires : tie.Need-read-table-requires
-read-table-requires c κs = search needs
+total-requires : tie.Need-total-requires
+total-requires c κs = search needs
 
-has-room-after-requires : tie.Need-has-room-after-requires
-has-room-after-requires c κs = search needs
+cells-requires : tie.Need-cells-requires
+cells-requires c κs = search needs
+
+add-result : tie.Need-add-result
+add-result c = search needs
+
+cells-requires-2 : tie.Need-cells-requires-2
+cells-requires-2 c κs = search needs
+
+add-result-2 : tie.Need-add-result-2
+add-result-2 c = search needs
 
 returns : tie.Need-returns
-returns c = let e : (length (c .before .before .before .args .home .now) - 1664) / 8 ≡ 8 * pagesOf (c .before .before .before .args .home .now) = omega (arith, c .before .before .before .pre .2) in rw (c .has-room-after .ensures, c .before .read-table .ensures, e)
+returns c = let e : (length (c .before .before .before .before .args .home .now) - 1664) / 8 ≡ 8 * pagesOf (c .before .before .before .before .args .home .now) = omega (arith, stored-long _ (c .before .before .before .before .pre .0)) in rw (c .before .before .total .ensures .0, c .before .cells .ensures .0, c .cells2 .ensures .0, e)
 
 pub room-after-spec : {M : Type 1} → statement M
-room-after-spec = tie.close (tie.spec sub-area read-table-requires has-room-after-requires returns)
+room-after-spec =
+    tie.close
+    (tie.spec
+    sub-area
+    total-requires
+    cells-requires
+    add-result
+    cells-requires-2
+    add-result-2
+    returns)

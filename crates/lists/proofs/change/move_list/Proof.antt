@@ -11,15 +11,15 @@ class-of-requires c κs = omega (arith, listed-most _ _ _ _ (c .before .before .
 take-out-requires : tie.Need-take-out-requires
 take-out-requires c κs = rw (c .class-of .ensures) (listed-known _ _ _ _ (c .before .before .before .before .pre .listed))
 
-place-requires : tie.Need-place-requires
-place-requires c κs = moving-placeable _ _ _ _ _ (c .before .before .before .before .before .before .before .before .pre) _ (c .before .before .before .take-out .ensures)
+settle-requires : tie.Need-settle-requires
+settle-requires c κs = moving-placeable _ _ _ _ _ (c .before .before .before .before .before .before .before .before .pre) _ (c .before .before .before .take-out .ensures)
 
 same-length : tie.Need-same-length
 same-length c = search needs
 
 returns : tie.Need-returns
-returns c = moving-changed _ _ _ _ _ (c .before .before .before .before .before .before .before .before .before .before .before .pre) _ (c .before .before .before .before .before .before .take-out .ensures) _ (c .before .before .place .ensures .1)
+returns c = moving-changed _ _ _ _ _ (c .before .before .before .before .before .before .before .before .before .before .before .pre) _ (c .before .before .before .before .before .before .take-out .ensures) _ (c .before .before .settle .ensures .1)
 
 pub move-list-spec : {M : Type 1} → statement M
 move-list-spec =
-    tie.close (tie.spec class-of-requires take-out-requires place-requires same-length returns)
+    tie.close (tie.spec class-of-requires take-out-requires settle-requires same-length returns)

@@ -47,7 +47,7 @@ same-length c = search needs
 returns : tie.Need-returns
 returns c =
     let o = known-out _ _ _ _ _ _ (c .before .before .before .before .before .before .before .before .before .before .before .before .before .before .before .before .before .before .before .pre) (c .before .before .before .before .before .before .before .before .before .before .before .before .before .before .before .before .zone-first .result) (c .before .before .before .before .before .before .before .before .before .before .before .before .before .before .zone-count .result - 1) (c .before .before .before .before .before .before .before .before .before .before .before .before .before .before .before .before .zone-first .ensures .0) (ap (λ (m : ℕ). m - 1) (c .before .before .before .before .before .before .before .before .before .before .before .before .before .before .zone-count .ensures .0)) in
-    rw (c .before .before .set-zone .ensures, c .before .before .before .first-if .ensures .0, c .before .before .before .before .before .before .before .fill-place .ensures, c .before .before .before .before .before .before .before .before .cells .ensures .0, c .before .before .before .before .before .before .before .before .before .before .before .before .remove-entry .ensures) (o .bytes)
+    rw (c .before .before .set-zone .ensures, c .before .before .before .first-if .ensures, c .before .before .before .before .before .before .before .fill-place .ensures, c .before .before .before .before .before .before .before .before .cells .ensures .0, c .before .before .before .before .before .before .before .before .before .before .before .before .remove-entry .ensures) (o .bytes)
 
 pub remove-block-spec : {M : Type 1} → statement M
 remove-block-spec =

@@ -1,5 +1,0 @@
-pub mod Spans
-pub mod Steps
-pub mod Examples
-pub mod SpansLaws
-pub mod StepsLaws
