@@ -328,28 +328,79 @@ fn place(h: &mut [u8], t: &mut Table, c: usize) -> usize {
     cell
 }
 
-/// The table with a block of class c taken out and gaps closed; blocks are moved by `f`.
-fn taken(t: &mut Table, c: usize, mut f: impl FnMut(usize, usize, usize)) {
-    t[c].1 -= 1;
-    for d in c + 1..CLASSES {
-        while t[d].1 > 0 && t[d].0 - end_below(t, d) >= SIZE[d] {
-            f(d, t[d].0 + (t[d].1 - 1) * SIZE[d], t[d].0 - SIZE[d]);
-            t[d].0 -= SIZE[d];
-        }
-    }
-}
-
+/// Takes a block of class c out and closes the gaps above.
 fn take_out(h: &mut [u8], t: &mut Table, c: usize, cell: usize) {
-    let last = t[c].0 + (t[c].1 - 1) * SIZE[c];
+    t[c].1 -= 1;
+    let last = t[c].0 + t[c].1 * SIZE[c];
     if last == cell {
         h[at(cell)..at(cell + SIZE[c])].fill(0);
     } else {
         move_block(h, last, cell, SIZE[c]);
     }
-    taken(t, c, |d, from, to| move_block(h, from, to, SIZE[d]));
-    for d in c..CLASSES {
+    set_zone(h, c, t[c].0, t[c].1);
+    for d in c + 1..CLASSES {
+        while t[d].1 > 0 && t[d].0 - end_below(t, d) >= SIZE[d] {
+            move_block(h, t[d].0 + (t[d].1 - 1) * SIZE[d], t[d].0 - SIZE[d], SIZE[d]);
+            t[d].0 -= SIZE[d];
+            set_zone(h, d, t[d].0, t[d].1);
+        }
+    }
+}
+
+/// Moves the blocks of a zone of class c and corrects their dictionary entries; what they left stays.
+fn move_zone(h: &mut [u8], (first, count): (usize, usize), to: usize, c: usize) {
+    h.copy_within(at(first)..at(first + count * SIZE[c]), at(to));
+    for i in 0..count {
+        let cell = to + i * SIZE[c];
+        if let Ok(e) = find(h, four(h, at(cell))) {
+            set_two(h, DICTIONARY + 6 * e + 4, cell);
+        }
+    }
+}
+
+/// Lays all zones out from cell 0 without gaps, counts a block of class c in behind its zone, and answers
+/// its cell. Each zone moves once: those that go up from the highest on, then the others from the lowest.
+fn lay_afresh(h: &mut [u8], t: &mut Table, c: usize) -> usize {
+    let old = *t;
+    t[c].1 += 1;
+    let mut end = 0;
+    for d in 0..CLASSES {
+        t[d].0 = end;
+        end += t[d].1 * SIZE[d];
         set_zone(h, d, t[d].0, t[d].1);
     }
+    for d in (0..CLASSES).rev().filter(|&d| t[d].0 > old[d].0) {
+        move_zone(h, old[d], t[d].0, d);
+    }
+    for d in (0..CLASSES).filter(|&d| t[d].0 < old[d].0) {
+        move_zone(h, old[d], t[d].0, d);
+    }
+    let old_end = end_below(&old, CLASSES);
+    if end < old_end {
+        h[at(end)..at(old_end)].fill(0);
+    }
+    t[c].0 + old[c].1 * SIZE[c]
+}
+
+/// How a put ended: the list's class stayed, its block found room, or all zones were laid out afresh.
+#[derive(Clone, Copy, PartialEq)]
+pub enum Way {
+    Kept,
+    Placed,
+    Afresh,
+}
+
+/// Places a block of class c or lays all zones out afresh; answers its cell.
+fn settle(h: &mut [u8], t: &mut Table, c: usize, cells: usize) -> (usize, Way) {
+    if has_room(t, c, end_below(t, c + 1), cells) {
+        (place(h, t, c), Way::Placed)
+    } else {
+        (lay_afresh(h, t, c), Way::Afresh)
+    }
+}
+
+fn total(t: &Table) -> usize {
+    (0..CLASSES).map(|c| t[c].1 * SIZE[c]).sum()
 }
 
 fn write_block(h: &mut [u8], cell: usize, c: usize, tag: u32, list: &[u8]) {
@@ -362,6 +413,11 @@ fn write_block(h: &mut [u8], cell: usize, c: usize, tag: u32, list: &[u8]) {
 }
 
 pub fn put(space: &mut [u8], tag: u32, r: [u8; 8]) -> Result<u32, u8> {
+    put_by(space, tag, r).map(|(n, _)| n)
+}
+
+/// The list's count afterwards, and how the put ended.
+pub fn put_by(space: &mut [u8], tag: u32, r: [u8; 8]) -> Result<(u32, Way), u8> {
     if !sized(space) {
         return Err(6);
     }
@@ -377,17 +433,17 @@ pub fn put(space: &mut [u8], tag: u32, r: [u8; 8]) -> Result<u32, u8> {
             return Err(11);
         }
         let mut t = table(space);
-        if !has_room(&t, 0, end_below(&t, 1), cells) {
+        if total(&t) + SIZE[0] > cells {
             return Err(12);
         }
-        let cell = place(space, &mut t, 0);
+        let (cell, way) = settle(space, &mut t, 0, cells);
         let entry = DICTIONARY + 6 * i;
         space.copy_within(entry..DICTIONARY + 6 * tags, entry + 6);
         space[entry..entry + 4].copy_from_slice(&tag.to_be_bytes());
         set_two(space, entry + 4, cell);
         set_two(space, 0, tags + 1);
         write_block(space, cell, 0, tag, &r);
-        return Ok(1);
+        return Ok((1, way));
     };
     let entry = DICTIONARY + 6 * i;
     let cell = two(space, entry + 4);
@@ -417,12 +473,10 @@ pub fn put(space: &mut [u8], tag: u32, r: [u8; 8]) -> Result<u32, u8> {
         space.copy_within(there..a + 8 + 8 * n, there + 8);
         space[there..there + 8].copy_from_slice(&r);
         set_two(space, a + 4, n + 1);
-        return Ok(n as u32 + 1);
+        return Ok((n as u32 + 1, Way::Kept));
     }
     let mut t = table(space);
-    let mut foretold = t;
-    taken(&mut foretold, old, |_, _, _| {});
-    if !has_room(&foretold, new, end_below(&foretold, new + 1), cells) {
+    if total(&t) - SIZE[old] + SIZE[new] > cells {
         return Err(12);
     }
     let mut aside = [0u8; 8 * LONGEST];
@@ -430,10 +484,10 @@ pub fn put(space: &mut [u8], tag: u32, r: [u8; 8]) -> Result<u32, u8> {
     aside[8 * rank..8 * rank + 8].copy_from_slice(&r);
     aside[8 * rank + 8..8 * n + 8].copy_from_slice(&space[there..a + 8 + 8 * n]);
     take_out(space, &mut t, old, cell);
-    let cell = place(space, &mut t, new);
+    let (cell, way) = settle(space, &mut t, new, cells);
     write_block(space, cell, new, tag, &aside[..8 * n + 8]);
     set_two(space, entry + 4, cell);
-    Ok(n as u32 + 1)
+    Ok((n as u32 + 1, way))
 }
 
 // ---- calls that store

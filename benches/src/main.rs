@@ -1,10 +1,11 @@
-//! Times the library against memcmp, hand-written Rust and SQLite, and prints a table of ratios:
+//! Times the library against memcmp, hand-written Rust and SQLite, and prints tables of ratios:
 //! `figures [REPEATS]`. Each ratio is a median over repeats in which the two take turns.
 mod hand;
 #[cfg(sqlite)]
 mod sqlite;
 
 use cix::{Record, Stored};
+use hand::Way;
 use std::hint::black_box;
 use std::time::Instant;
 
@@ -19,6 +20,7 @@ fn main() {
     #[cfg(sqlite)]
     against_sqlite(repeats);
     by_size(repeats);
+    laid_afresh(repeats);
 }
 
 // ---- timing
@@ -111,8 +113,11 @@ fn used(space: &[u8]) -> usize {
 /// An image whose area is filled by puts to tags taken at random: not at all, until half the cells are
 /// used, or until a hundred puts in a row find no room.
 fn filled(pages: u32, fill: Fill) -> Bench {
+    filled_with((pages / 4).clamp(2, 200), pages, fill)
+}
+
+fn filled_with(tags: u32, pages: u32, fill: Fill) -> Bench {
     let entries = 26 + pages;
-    let tags = (pages / 4).clamp(2, 200);
     let mut b = Bench {
         image: vec![0; cix::image_bytes(entries, pages)],
         space: vec![0; cix::space_bytes(pages)],
@@ -355,5 +360,101 @@ fn by_size(repeats: usize) {
         let each = race.time(0) / row.len() as f64;
         let base = *base.get_or_insert(each);
         println!("| {pages} | {} | {:.1} | {:.2} |", b.image.len(), each / base, each / 1000.0);
+    }
+}
+
+// ---- zones laid out afresh
+
+/// A full workspace, and puts on it: one that lays all zones out afresh, one that changes its list's class
+/// and finds room, and one that keeps it.
+struct Edge {
+    space: Vec<u8>,
+    afresh: (u32, Record),
+    placed: (u32, Record),
+    kept: (u32, Record),
+}
+
+/// How a put is done, by hand and by the library, which leave the same bytes.
+fn way(space: &[u8], (tag, call): (u32, Record)) -> Option<Way> {
+    let (mut one, mut two) = (space.to_vec(), space.to_vec());
+    let by_hand = hand::put_by(&mut one, tag, bytes(call));
+    let by_library = cix::put(&mut two, tag, call).map_err(|r| r.number());
+    assert_eq!(by_hand.map(|(n, _)| n), by_library, "the hand-written put answers otherwise");
+    assert!(one == two, "the hand-written put leaves other bytes");
+    by_hand.ok().map(|(_, way)| way)
+}
+
+/// Puts and deletes on a full area until it is such a workspace, and then makes the put.
+fn edge(b: &mut Bench) -> Edge {
+    loop {
+        if b.rng.below(3) == 0 {
+            let i = b.rng.below(b.calls.len() as u32) as usize;
+            let (tag, call) = b.calls.swap_remove(i);
+            cix::delete(&mut b.space, tag, call).unwrap();
+        }
+        let put = (7 * b.rng.below(b.tags), b.rng.call());
+        let Some(done) = way(&b.space, put) else { continue };
+        let space = b.space.clone();
+        cix::put(&mut b.space, put.0, put.1).unwrap();
+        b.calls.push(put);
+        if done == Way::Afresh {
+            let listed = (0..b.tags).map(|t| 7 * t).filter(|&t| cix::count_space(&space, t) != Ok(0));
+            let puts: Vec<_> = listed.map(|t| (t, put.1)).collect();
+            let first = |w| puts.iter().copied().find(|&put| way(&space, put) == Some(w));
+            if let (Some(placed), Some(kept)) = (first(Way::Placed), first(Way::Kept)) {
+                return Edge { space, afresh: put, placed, kept };
+            }
+        }
+    }
+}
+
+/// The times of the soundness test, the three puts, and the first of them by hand, each after a copy of
+/// the workspace, whose time is first and left out of the others.
+fn race_at(e: &Edge, repeats: usize) -> Race {
+    let mut spaces: [_; 6] = std::array::from_fn(|_| e.space.clone());
+    let [copy, sound, afresh, placed, kept, by_hand] = &mut spaces;
+    let put = |space: &mut [u8], (tag, call): (u32, Record)| {
+        space.copy_from_slice(&e.space);
+        cix::put(black_box(space), tag, call).unwrap();
+    };
+    let race = Race::run(
+        repeats,
+        vec![
+            &mut || black_box(&mut *copy).copy_from_slice(&e.space),
+            &mut || {
+                sound.copy_from_slice(&e.space);
+                black_box(cix::count_space(black_box(sound), u32::MAX)).unwrap();
+            },
+            &mut || put(afresh, e.afresh),
+            &mut || put(placed, e.placed),
+            &mut || put(kept, e.kept),
+            &mut || {
+                by_hand.copy_from_slice(&e.space);
+                hand::put(black_box(by_hand), e.afresh.0, bytes(e.afresh.1)).unwrap();
+            },
+        ],
+    );
+    Race(race.0.iter().map(|t| t.iter().map(|x| x - t[0]).collect()).collect())
+}
+
+fn laid_afresh(repeats: usize) {
+    println!("\nPuts that lay all zones out afresh, and others, on nine full workspaces, in microseconds\n");
+    println!("| R | afresh | changes class | keeps class | soundness test | afresh / that test | at most | afresh / by hand |");
+    println!("|---|---|---|---|---|---|---|---|");
+    for pages in [8, 64, 1024] {
+        let mut b = filled_with((pages / 4).clamp(8, 200), pages, Fill::Full);
+        let races: Vec<Race> = (0..9).map(|_| race_at(&edge(&mut b), repeats)).collect();
+        let time = |i| median(races.iter().map(|r| r.time(i) / 1000.0).collect());
+        let ratio = |i, j| median(races.iter().map(|r| r.ratio(i, j)).collect());
+        let most = races.iter().map(|r| r.ratio(2, 1)).fold(0.0, f64::max);
+        println!(
+            "| {pages} | {:.2} | {:.2} | {:.2} | {:.2} | {:.1} | {most:.1} | {:.2} |",
+            time(2),
+            time(3),
+            time(4),
+            time(1),
+            ratio(2, 1),
+            ratio(2, 5)
+        );
     }
 }
