@@ -24,7 +24,7 @@ use Rattle.home.specs.declared.lookup.Slot.the-variants.{Absent as AbsentTag}
 use Rattle.home.specs.Capacities.{cells, classOf}
 use Rattle.home.specs.Zones.{Zone, blocks, hasTag, find, total, change as changeBy}
 use Rattle.home.specs.Layout.{change}
-use Rattle.home.specs.Afresh.{blockSize, totalAfter as totalAfterBy}
+use Rattle.home.specs.Sizes.{blockSize, totalAfter as totalAfterBy}
 use Rattle.home.specs.AfreshLaws.{size-some}
 use Rattle.home.specs.Edits.{edited, put, delete, setMinutes, dropTag}
 use Rattle.home.specs.EditsLaws.{length-amend, shorter, exactly, had-size, total-low, empty-unknown}

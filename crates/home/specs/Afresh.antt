@@ -1,12 +1,10 @@
--- What is said of layouts laid out afresh, and of the sizes of all blocks.
+-- What is said of layouts laid out afresh.
 use mathlib.Core.Path.{_≡_}
 use mathlib.Core.List.{List, [], _∷_, _++_}
-use Prim.Native.Nat.{ℕ, zero, suc, _+_, _*_, _-_}
+use Prim.Native.Nat.{ℕ, zero, suc, _+_, _*_}
 use lib.ListN.{length}
 use Rattle.wire.specs.Bytes.{pick}
-use Rattle.records.specs.declared.Record.{Record}
-use Rattle.home.specs.Zones.{Block, Zone, empty, from, blocks, hasTag, find, takeOut, total}
-use Rattle.home.specs.Perm.{sum}
+use Rattle.home.specs.Zones.{Block, Zone, empty, from, blocks, hasTag, takeOut}
 
 -- each class's blocks, in their order
 unfoldable pub byClass : List Zone → List (List Block)
@@ -30,17 +28,3 @@ module _ (cells : ℕ → ℕ) where
   -- the zones "just before the placing" of tag t's block: its old one, if it has one, is taken out, and gaps are closed
   unfoldable pub justBefore : ℕ → List Zone → List Zone
   justBefore t zs = pick (hasTag t (blocks zs)) (takeOut cells t 0 0 zs) zs
-
-  -- the size of a list's block; the empty list has none
-  unfoldable pub blockSize : (ℕ → ℕ) → List Record → ℕ
-  blockSize classOf [] = 0
-  blockSize classOf (r ∷ rs) = cells (classOf (length (r ∷ rs)))
-
-  -- "the sizes of all blocks", by their lists
-  abbrev pub sizes : (ℕ → ℕ) → List Block → ℕ
-  sizes classOf bs = sum (λ (b : Block). blockSize classOf (b .list)) bs
-
-  -- "the sizes of all blocks after the edit" by which tag t's list becomes rs: of all before it, less the tag's old block, with its new one
-  unfoldable pub totalAfter : (ℕ → ℕ) → ℕ → List Record → List Zone → ℕ
-  unfolding total blockSize
-  totalAfter classOf t rs zs = total cells 0 zs - blockSize classOf (find t (blocks zs)) + blockSize classOf rs

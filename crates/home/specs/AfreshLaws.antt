@@ -15,12 +15,13 @@ use Rattle.records.specs.declared.Record.{Record}
 use Rattle.home.specs.Zones.{Block, Zone, empty, from, endOf, blocks, hasTag, find, place, takeOut, based, joined, total, afresh, layAfresh, settle, change}
 use Rattle.home.specs.Perm.{Perm, ptrans, sum, after}
 use Rattle.home.specs.PermLaws.{prefl, psym, pleft, pright, pfront, protate, plength, psum}
-use Rattle.home.specs.Valid.{Sits, Laid, Valid}
+use Rattle.home.specs.Valid.{Sits, Laid, Fit, Valid}
 use Rattle.home.specs.Cases.{by-pick, isSome, orElse, Holds, holds-some, holds-both, holds-to, holds-else, holds-at, else-first, else-some, some-is, none-is}
 use Rattle.home.specs.FindLaws.{Lacks, pdistinct}
 use Rattle.home.specs.PlaceLaws.{length-snoc, Made, Placed, place-made, place-length}
 use Rattle.home.specs.RoomLaws.{shrink-room}
-use Rattle.home.specs.Afresh.{byClass, behind, Gapless, justBefore, blockSize, sizes}
+use Rattle.home.specs.Afresh.{byClass, behind, Gapless, justBefore}
+use Rattle.home.specs.Sizes.{blockSize, sizes}
 
 -- ---- the same blocks in the same order
 
@@ -86,16 +87,28 @@ module _ (cells classOf : ℕ → ℕ) where
   Seated c (empty ∷ zs) = Seated (suc c) zs
   Seated c (from f x xs ∷ zs) = All (Sits cells classOf c) (x ∷ xs) × Seated (suc c) zs
 
+  -- all of this holds without the rule on gaps
+  pub laid-fit : (area c e : ℕ) (zs : List Zone) → Laid cells classOf area c e zs → Fit cells classOf area c e zs
+  laid-fit area c e [] h = h
+  laid-fit area c e (empty ∷ zs) h = laid-fit area (suc c) e zs h
+  laid-fit area c e (from f x xs ∷ zs) h = (record { after = h .0 .after; sit = h .0 .sit }, laid-fit area (suc c) (f + suc (length xs) * cells c) zs (h .1))
+
+  pub fit-seated : (area c e : ℕ) (zs : List Zone) → Fit cells classOf area c e zs → Seated c zs
+  fit-seated area c e [] h = tt
+  fit-seated area c e (empty ∷ zs) h = fit-seated area (suc c) e zs h
+  fit-seated area c e (from f x xs ∷ zs) h = (h .0 .sit, fit-seated area (suc c) (f + suc (length xs) * cells c) zs (h .1))
+
+  pub fit-total : (area c e : ℕ) (zs : List Zone) → Fit cells classOf area c e zs → e + total cells c zs ≤ area
+  unfolding total
+  fit-total area c e [] h = omega arith
+  fit-total area c e (empty ∷ zs) h = fit-total area (suc c) e zs h
+  fit-total area c e (from f x xs ∷ zs) h = omega (arith, fit-total area (suc c) (f + suc (length xs) * cells c) zs (h .1), h .0 .after)
+
   pub laid-seated : (area c e : ℕ) (zs : List Zone) → Laid cells classOf area c e zs → Seated c zs
-  laid-seated area c e [] h = tt
-  laid-seated area c e (empty ∷ zs) h = laid-seated area (suc c) e zs h
-  laid-seated area c e (from f x xs ∷ zs) h = (h .0 .sit, laid-seated area (suc c) (f + suc (length xs) * cells c) zs (h .1))
+  laid-seated area c e zs h = fit-seated area c e zs (laid-fit area c e zs h)
 
   pub laid-total : (area c e : ℕ) (zs : List Zone) → Laid cells classOf area c e zs → e + total cells c zs ≤ area
-  unfolding total
-  laid-total area c e [] h = omega arith
-  laid-total area c e (empty ∷ zs) h = laid-total area (suc c) e zs h
-  laid-total area c e (from f x xs ∷ zs) h = omega (arith, laid-total area (suc c) (f + suc (length xs) * cells c) zs (h .1), h .0 .after)
+  laid-total area c e zs h = fit-total area c e zs (laid-fit area c e zs h)
 
   pub size-some : (rs : List Record) → 0 < length rs → blockSize cells classOf rs ≡ cells (classOf (length rs))
   unfolding blockSize

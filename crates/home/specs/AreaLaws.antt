@@ -9,20 +9,19 @@ use Rattle.wire.specs.Bytes.{part, over, bytes16, bytes32}
 use Rattle.wire.specs.BytesLaws.{length-over, part-over}
 use Rattle.wire.specs.All.{All, none, more, all-append, all-map, all-head, all-tail}
 use Rattle.records.specs.Edits.{length-encode}
-use Rattle.home.specs.Capacities.{cells, capacity}
+use Rattle.home.specs.Capacities.{cells, capacity, classOf}
 use Rattle.home.specs.Zones.{Block, Zone, empty, from}
 use Rattle.home.specs.Perm.{Pairs, single, after}
 use Rattle.home.specs.Layout.{Sits, Laid, Fit}
 use Rattle.home.specs.Bytes.{blockBytes, Spot, row, spots, paint, area}
 use Rattle.home.specs.PermLaws.{pairs-append}
+use Rattle.home.specs.AfreshLaws.{laid-fit as laid-fit-by}
 use Rattle.home.specs.BytesLaws.{Clear, part-else, part-zeros}
 
 -- ---- layouts
 
 pub laid-fit : (n c e : ℕ) (zs : List Zone) → Laid n c e zs → Fit n c e zs
-laid-fit n c e [] h = h
-laid-fit n c e (empty ∷ zs) h = laid-fit n (suc c) e zs h
-laid-fit n c e (from f x xs ∷ zs) h = (record { after = h .0 .after; sit = h .0 .sit }, laid-fit n (suc c) (f + suc (length xs) * cells c) zs (h .1))
+laid-fit n c e zs h = laid-fit-by cells classOf n c e zs h
 
 pub fit-le : (n c e : ℕ) (zs : List Zone) → Fit n c e zs → e ≤ n
 fit-le n c e [] h = h

@@ -25,7 +25,7 @@ pub record Edited : Type 0 where
 abbrev pub refuse : ℕ → List Zone → Edited
 refuse n zs = record { answer = refused n; layout = zs }
 
--- "12: put, no room"
+-- "12: put, no room", that is "the sizes of all blocks after the edit add up to more than the record area"
 unfoldable pub edited : ℕ → List Zone → Option (List Zone) → Edited
 edited n zs none = refuse 12 zs
 edited n zs (some zs') = record { answer = count n; layout = zs' }

@@ -21,7 +21,7 @@ use Rattle.home.specs.Layout.{Sits, Laid, Valid, change, totalAfter}
 use Rattle.home.specs.Edits.{Answer, count, refused, Edited, edited, put, delete, setMinutes, dropTag}
 use Rattle.home.specs.Cases.{by-pick, isSome, Holds}
 use Rattle.home.specs.FindLaws.{by-tag, has-here, has-skip, find-here, find-skip}
-use Rattle.home.specs.Afresh.{blockSize}
+use Rattle.home.specs.Sizes.{blockSize}
 use Rattle.home.specs.AfreshLaws.{laid-total}
 use Rattle.home.specs.ChangeLaws.{Changed, Listed, Open, change-changed, shorter-some}
 use Rattle.home.specs.ExactLaws.{had, change-exactly}

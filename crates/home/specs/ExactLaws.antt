@@ -19,7 +19,7 @@ use Rattle.home.specs.FindLaws.{pfind, find-here, find-none, lacks-has}
 use Rattle.home.specs.PlaceLaws.{Placed}
 use Rattle.home.specs.TakeLaws.{TakenOut, Taken, takeOut-valid, takeOut-taken}
 use Rattle.home.specs.ChangeLaws.{Listed, Open, sits}
-use Rattle.home.specs.Afresh.{blockSize, totalAfter}
+use Rattle.home.specs.Sizes.{blockSize, totalAfter}
 use Rattle.home.specs.AfreshLaws.{Seated, laid-seated, laid-total, total-sizes, size-some, settle-holds, settle-exactly}
 
 -- every block holds a record

@@ -6,7 +6,7 @@ use Prim.Native.Nat.{ℕ}
 use Rattle.records.specs.declared.Record.{Record}
 use Rattle.home.specs.Capacities.{cells, classOf}
 use Rattle.home.specs.Zones.{Block, Zone, change as changeBy}
-use Rattle.home.specs.Afresh.{totalAfter as totalAfterBy}
+use Rattle.home.specs.Sizes.{totalAfter as totalAfterBy}
 use Rattle.home.specs.Valid.{Sits as SitsBy, Laid as LaidBy, Fit as FitBy, Valid as ValidBy, valid as validBy}
 
 abbrev pub Sits : ℕ → Block → Type 0

@@ -19,6 +19,7 @@ pub mod Literal
 pub mod LiteralLaws
 pub mod RoomLaws
 pub mod Afresh
+pub mod Sizes
 pub mod AfreshLaws
 pub mod ChangeLaws
 pub mod ExactLaws

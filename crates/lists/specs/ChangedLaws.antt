@@ -1,14 +1,14 @@
 -- A tag's list that becomes another: in its block, in a block of another class, or in none.
 use mathlib.Core.Path.{_≡_, refl, sym, ap, ap₂, _∙_, subst}
-use mathlib.Core.Bool.{true, false}
+use mathlib.Core.Bool.{Bool, true, false}
 use mathlib.Core.Logic.{_≢_}
 use mathlib.Core.Option.{Option, none, some}
 use mathlib.Core.List.{List, [], _∷_, _++_}
 use Prim.Native.Nat.{ℕ, _+_, _*_, _/_, _<_}
 use native.Mathlib.Omega.{arith}
 use lib.ListN.{length}
-use borrow.Author.Tests.{eq-eqb, ne-eqb}
-use Rattle.wire.specs.Bytes.{over}
+use borrow.Author.Tests.{eq-eqb}
+use Rattle.wire.specs.Bytes.{pick, over}
 use Rattle.wire.specs.All.{more}
 use Rattle.wire.specs.Cases.{never}
 use Rattle.records.specs.declared.Record.{Record}
@@ -32,6 +32,8 @@ use Rattle.moves.specs.HomeLaws.{Loose}
 use Rattle.moves.specs.StepLaws.{home-list-set}
 use Rattle.moves.specs.Room.{settled}
 use Rattle.moves.specs.CloseLaws.{decode-loose, pages-loose}
+use Rattle.home.specs.Afresh.{justBefore}
+use Rattle.home.specs.AfreshLaws.{change-settles}
 use Rattle.zones.specs.SoundLaws.{valid-loose, sound-small, sound-some, sound-valid}
 use Rattle.zones.specs.Known.{Known}
 use Rattle.zones.specs.KnownLaws.{rewritten-there}
@@ -104,9 +106,10 @@ module _ (h : List ℕ) (t p n : ℕ) (l : Listed h t p n) where
   -- ---- in a block of another class
 
   other-class : (rs : List Record) → 0 < length rs → classOf (length rs) ≢ classOf n → change (8 * R) t rs zs ≡ settle cells (8 * R) (classOf (length rs)) (record { tag = t; list = rs }) (takeOut cells t 0 0 zs)
-  unfolding changeBy
-  other-class [] g e = absurd (omega arith)
-  other-class (r ∷ rs) g e = rw (listed-has h t p n l, ne-eqb (classOf (length (find t (blocks zs)))) (classOf (length (r ∷ rs))) (λ q. e (sym q ∙ same-class)))
+  unfolding justBefore
+  other-class rs g e =
+      change-settles cells classOf (8 * R) t rs zs g (λ i q. e (sym q ∙ same-class))
+      ∙ ap (λ (b : Bool). settle cells (8 * R) (classOf (length rs)) (record { tag = t; list = rs }) (pick b (takeOut cells t 0 0 zs) zs)) (listed-has h t p n l)
 
   module _ (h' : List ℕ) (q : h' ≡ encode R (takeOut cells t 0 0 zs)) where
     abbrev left : List Zone

@@ -29,8 +29,8 @@ use Rattle.moves.specs.HomeLaws.{Loose, pmap, small-entries, encode-stat
 use Rattle.moves.specs.SpotLaws.{spot}
 use Rattle.moves.specs.Room.{endAfter}
 
-abbrev pub blockOf : Spot → Block
-blockOf s = s .block
+abbrev pub spotBlock : Spot → Block
+spotBlock s = s .block
 
 abbrev pub SitsAt : Spot → Type 0
 SitsAt s = Sits (s .class) (s .block)
@@ -44,7 +44,7 @@ pub record Kept (R : ℕ) (ss : List Spot) : Type 0 where
   pub sit : All SitsAt ss
   pub good : All (Good (8 * R)) ss
   pub apart : Pairs Apart ss
-  pub distinct : Pairs Other (map blockOf ss)
+  pub distinct : Pairs Other (map spotBlock ss)
   pub few : length ss ≤ 256
 
 pub kept-perm : (R : ℕ) {ss ts : List Spot} → Perm ss ts → Kept R ss → Kept R ts
@@ -52,15 +52,15 @@ kept-perm R p k = record {
   sit = pall SitsAt p (k .sit);
   good = pall (Good (8 * R)) p (k .good);
   apart = ppairs Apart apart-sym p (k .apart);
-  distinct = pdistinct (pmap blockOf p) (k .distinct);
+  distinct = pdistinct (pmap spotBlock p) (k .distinct);
   few = omega (arith, plength p, k .few);
 }
 
-else-all : (s : Spot) (ss : List Spot) → All (Other (s .block)) (map blockOf ss) → All (Else (entryOf s)) (map entryOf ss)
+else-all : (s : Spot) (ss : List Spot) → All (Other (s .block)) (map spotBlock ss) → All (Else (entryOf s)) (map entryOf ss)
 else-all s [] a = none
 else-all s (t ∷ ts) (more o a) = more o (else-all s ts a)
 
-else-of : (ss : List Spot) → Pairs Other (map blockOf ss) → Pairs Else (map entryOf ss)
+else-of : (ss : List Spot) → Pairs Other (map spotBlock ss) → Pairs Else (map entryOf ss)
 else-of [] h = single
 else-of (s ∷ ss) (after a h) = after (else-all s ss a) (else-of ss h)
 
@@ -212,5 +212,5 @@ unfolding cells
 lined-good n [] h k = none
 lined-good n (s ∷ ss) h k = more {x = s} (record { room = omega (arith, all-head h .room); inside = all-head k .high }) (lined-good n ss (all-tail h) (all-tail k))
 
-pub kept-lined : (R : ℕ) (ss : List Spot) → All SitsAt ss → Lined 0 ss (8 * R) → Pairs Other (map blockOf ss) → length ss ≤ 256 → Kept R ss
+pub kept-lined : (R : ℕ) (ss : List Spot) → All SitsAt ss → Lined 0 ss (8 * R) → Pairs Other (map spotBlock ss) → length ss ≤ 256 → Kept R ss
 kept-lined R ss s l d f = record { sit = s; good = lined-good (8 * R) ss s (lined-between 0 ss (8 * R) l); apart = lined-apart 0 ss (8 * R) l; distinct = d; few = f }

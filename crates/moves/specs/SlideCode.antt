@@ -22,7 +22,7 @@ use Rattle.moves.specs.Room.{endAfter}
 use Rattle.moves.specs.RoomLaws.{at-zone, zone-here}
 use Rattle.moves.specs.HeldLaws.{held, held-zoned, encode-held}
 use Rattle.moves.specs.Slide.{rebased, Slides, slid, Going}
-use Rattle.moves.specs.SlideLaws.{Here, startingAt, halfBytes, Between, half-none, half-all, half-moves, rebased-at, loose-kept}
+use Rattle.moves.specs.SlideLaws.{Here, startingAt, halfBytes, Reach, half-none, half-all, half-moves, rebased-at, loose-kept}
 
 pub slides-long : (R : ℕ) (h : List ℕ) (zs : List Zone) (c to : ℕ) → Slides R h zs c to → length h ≡ 1664 + 64 * R
 slides-long R h zs c to o = ap length (o .bytes) ∙ length-loose R (o .pages) zs (o .loose)
@@ -80,7 +80,7 @@ goes R h zs c to o m =
 -- n blocks of k cells: the first i lie from p on, the others from where they would lie from q on
 pub record Sliding (R : ℕ) (zs : List Zone) (h : List ℕ) (c to p q i n k : ℕ) : Type 0 where
   pub here : Here R zs c
-  pub between : Between R zs c here p q
+  pub reach : Reach R zs c here p q
   pub there : rebased zs c to ≡ startingAt R zs c here to
   pub next : Loose R (startingAt R zs c here to)
   pub many : n ≡ suc (length (here .tail))
@@ -123,7 +123,7 @@ module _ (h : List ℕ) (c f to n k : ℕ) (o : Going h c f to n) (size : k ≡ 
   pub down-start : to ≤ f → Sliding R zs h c to to f 0 n k
   down-start le = record {
     here = z;
-    between = record { low = fits to (g .next) .0; order = le; high = fits f now-loose .1 };
+    reach = record { low = fits to (g .next) .0; order = le; high = fits f now-loose .1 };
     there = g .there;
     next = g .next;
     many = blocks-are;
@@ -135,7 +135,7 @@ module _ (h : List ℕ) (c f to n k : ℕ) (o : Going h c f to n) (size : k ≡ 
   pub up-start : f ≤ to → Sliding R zs h c to f to n n k
   up-start le = record {
     here = z;
-    between = record { low = fits f now-loose .0; order = le; high = fits to (g .next) .1 };
+    reach = record { low = fits f now-loose .0; order = le; high = fits to (g .next) .1 };
     there = g .there;
     next = g .next;
     many = blocks-are;
@@ -162,22 +162,22 @@ module _ (R : ℕ) (zs : List Zone) (h : List ℕ) (c to p q i n k : ℕ) (s : S
       ∙ ap (λ (l : List ℕ). held R l (spots 0 zs')) set ∙ sym (encode-held R (z .pages) zs' (s .next)) ∙ ap (encode R) (sym (s .there))
 
   ends : q + n * k ≤ 8192
-  ends = rw (s .many, s .size) (omega (arith, s .here .pages, fit-le (8 * R) (suc c) (q + suc (length (s .here .tail)) * cells c) (s .here .higher) (s .between .high)))
+  ends = rw (s .many, s .size) (omega (arith, s .here .pages, fit-le (8 * R) (suc c) (q + suc (length (s .here .tail)) * cells c) (s .here .higher) (s .reach .high)))
 
   -- cells stay small
   pub sliding-small : (j : ℕ) → j ≤ n → (j * k ≤ 8192) × (p + j * k ≤ 8192) × (q + j * k ≤ 8192)
-  sliding-small j g = let m : j * k ≤ n * k = mul-le-mul-right k g in (omega (arith, ends), omega (arith, ends, s .between .order), omega (arith, ends))
+  sliding-small j g = let m : j * k ≤ n * k = mul-le-mul-right k g in (omega (arith, ends), omega (arith, ends, s .reach .order), omega (arith, ends))
 
   pub down-requires : i < n → ((c < 30) × (cellAt (q + i * k) + 8 * cells c ≤ length h) × (cellAt (p + i * k) + 8 * cells c ≤ length h)) × Movable h (q + i * k)
-  down-requires g = let m = half-moves R zs c (s .here) p q (s .between) i (omega (arith, s .many)) .0 in rw (s .bytes, s .size) ((s .here .under, m .old, m .new), m .movable)
+  down-requires g = let m = half-moves R zs c (s .here) p q (s .reach) i (omega (arith, s .many)) .0 in rw (s .bytes, s .size) ((s .here .under, m .old, m .new), m .movable)
 
   -- with another block moved
   moved-to : (j : ℕ) (h' : List ℕ) → j ≤ n → h' ≡ halfBytes R zs c (s .here) p q j → Sliding R zs h' c to p q j n k
-  moved-to j h' g e = record { here = s .here; between = s .between; there = s .there; next = s .next; many = s .many; size = s .size; upTo = g; bytes = e }
+  moved-to j h' g e = record { here = s .here; reach = s .reach; there = s .there; next = s .next; many = s .many; size = s .size; upTo = g; bytes = e }
 
   pub down-next : i < n → Sliding R zs (moved h c (q + i * k) (p + i * k)) c to p q (i + 1) n k
   down-next g = rw add-one
-      (moved-to (suc i) (moved h c (q + i * k) (p + i * k)) g (rw (s .bytes, s .size) (half-moves R zs c (s .here) p q (s .between) i (omega (arith, s .many)) .0 .bytes)))
+      (moved-to (suc i) (moved h c (q + i * k) (p + i * k)) g (rw (s .bytes, s .size) (half-moves R zs c (s .here) p q (s .reach) i (omega (arith, s .many)) .0 .bytes)))
 
   pub down-done : p ≡ to → n ≤ i → zoned h c to n ≡ slid R zs c to
   down-done e g =
@@ -190,13 +190,13 @@ module _ (R : ℕ) (zs : List Zone) (h : List ℕ) (c to p q i n k : ℕ) (s : S
 
   pub up-requires : 0 < i → ((c < 30) × (cellAt (p + (i - 1) * k) + 8 * cells c ≤ length h) × (cellAt (q + (i - 1) * k) + 8 * cells c ≤ length h)) × Movable h (p + (i - 1) * k)
   up-requires g =
-      let m = half-moves R zs c (s .here) p q (s .between) (i - 1) (omega (arith, s .many, s .upTo)) .1 in
+      let m = half-moves R zs c (s .here) p q (s .reach) (i - 1) (omega (arith, s .many, s .upTo)) .1 in
       rw (s .bytes ∙ ap (halfBytes R zs c (s .here) p q) (less g), s .size) ((s .here .under, m .old, m .new), m .movable)
 
   pub up-next : 0 < i → Sliding R zs (moved h c (p + (i - 1) * k) (q + (i - 1) * k)) c to p q (i - 1) n k
   up-next g =
       moved-to (i - 1) (moved h c (p + (i - 1) * k) (q + (i - 1) * k)) (omega (arith, s .upTo))
-      (rw (s .bytes ∙ ap (halfBytes R zs c (s .here) p q) (less g), s .size) (half-moves R zs c (s .here) p q (s .between) (i - 1) (omega (arith, s .many, s .upTo)) .1 .bytes))
+      (rw (s .bytes ∙ ap (halfBytes R zs c (s .here) p q) (less g), s .size) (half-moves R zs c (s .here) p q (s .reach) (i - 1) (omega (arith, s .many, s .upTo)) .1 .bytes))
 
   pub up-done : q ≡ to → i ≤ 0 → zoned h c to n ≡ slid R zs c to
   up-done e g =

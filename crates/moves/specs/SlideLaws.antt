@@ -20,7 +20,7 @@ use Rattle.moves.specs.LooseLaws.{fit-above, blocks-append}
 use Rattle.moves.specs.Room.{endAfter}
 use Rattle.moves.specs.RoomLaws.{take-here, drop-next, zone-here}
 use Rattle.moves.specs.Slide.{rebased}
-use Rattle.moves.specs.HeldLaws.{blockOf, SitsAt, held, Kept, kept-perm, held-perm, held-long, held-movable, held-moved, lined-lower, lined-append, row-lined, spots-lined, below-lined, kept-lined}
+use Rattle.moves.specs.HeldLaws.{spotBlock, SitsAt, held, Kept, kept-perm, held-perm, held-long, held-movable, held-moved, lined-lower, lined-append, row-lined, spots-lined, below-lined, kept-lined}
 
 -- ---- rows
 
@@ -29,16 +29,16 @@ unfolding row
 row-sits c p [] h = none
 row-sits c p (x ∷ xs) (more s h) = more s (row-sits c (p + cells c) xs h)
 
-row-blocks : (c p : ℕ) (xs : List Block) → map blockOf (row c p xs) ≡ xs
+row-blocks : (c p : ℕ) (xs : List Block) → map spotBlock (row c p xs) ≡ xs
 unfolding row
 row-blocks c p [] = refl
 row-blocks c p (x ∷ xs) = ap (λ (l : List Block). x ∷ l) (row-blocks c (p + cells c) xs)
 
-spots-blocks : (c : ℕ) (zs : List Zone) → map blockOf (spots c zs) ≡ blocks zs
+spots-blocks : (c : ℕ) (zs : List Zone) → map spotBlock (spots c zs) ≡ blocks zs
 unfolding spots blocks
 spots-blocks c [] = refl
 spots-blocks c (empty ∷ zs) = spots-blocks (suc c) zs
-spots-blocks c (from f x xs ∷ zs) = map-append blockOf (row c f (x ∷ xs)) (spots (suc c) zs) ∙ ap₂ (λ (l r : List Block). l ++ r) (row-blocks c f (x ∷ xs)) (spots-blocks (suc c) zs)
+spots-blocks c (from f x xs ∷ zs) = map-append spotBlock (row c f (x ∷ xs)) (spots (suc c) zs) ∙ ap₂ (λ (l r : List Block). l ++ r) (row-blocks c f (x ∷ xs)) (spots-blocks (suc c) zs)
 
 -- ---- halfway
 
@@ -46,13 +46,13 @@ abbrev halfway : List Zone → ℕ → ℕ → ℕ → List Block → List Block
 halfway ls c p q front back hs = spots 0 ls ++ ((row c p front ++ row c q back) ++ spots (suc c) hs)
 
 half-blocks : (ls : List Zone) (c p q : ℕ) (front back : List Block) (hs : List Zone) (f : ℕ) (x : Block) (xs : List Block) → front ++ back ≡ x ∷ xs
-    → map blockOf (halfway ls c p q front back hs) ≡ blocks (ls ++ from f x xs ∷ hs)
+    → map spotBlock (halfway ls c p q front back hs) ≡ blocks (ls ++ from f x xs ∷ hs)
 unfolding blocks
 half-blocks ls c p q front back hs f x xs w =
-    map-append blockOf (spots 0 ls) ((row c p front ++ row c q back) ++ spots (suc c) hs)
+    map-append spotBlock (spots 0 ls) ((row c p front ++ row c q back) ++ spots (suc c) hs)
     ∙ ap₂ (λ (l r : List Block). l ++ r) (spots-blocks 0 ls)
-    (map-append blockOf (row c p front ++ row c q back) (spots (suc c) hs)
-    ∙ ap₂ (λ (l r : List Block). l ++ r) (map-append blockOf (row c p front) (row c q back) ∙ ap₂ (λ (l r : List Block). l ++ r) (row-blocks c p front) (row-blocks c q back) ∙ w) (spots-blocks (suc c) hs))
+    (map-append spotBlock (row c p front ++ row c q back) (spots (suc c) hs)
+    ∙ ap₂ (λ (l r : List Block). l ++ r) (map-append spotBlock (row c p front) (row c q back) ∙ ap₂ (λ (l r : List Block). l ++ r) (row-blocks c p front) (row-blocks c q back) ∙ w) (spots-blocks (suc c) hs))
     ∙ sym (blocks-append ls (from f x xs ∷ hs))
 
 half-kept : (R : ℕ) (ls : List Zone) (c f : ℕ) (x : Block) (xs : List Block) (hs : List Zone) → Loose R (ls ++ from f x xs ∷ hs) → length ls ≡ c → (p q : ℕ) (front back : List Block)
@@ -63,7 +63,7 @@ half-kept R ls c f x xs hs v k p q front back w lo mid hi =
     let g : ℕ = q + length back * cells c in
     let a : Fit n c e (from f x xs ∷ hs) = fit-above n 0 0 c ls (from f x xs ∷ hs) (omega arith) (v .fit) in
     let s : All (Sits c) (front ++ back) = subst (All (Sits c)) (sym w) (a .0 .sit) in
-    let m : map blockOf (halfway ls c p q front back hs) ≡ blocks (ls ++ from f x xs ∷ hs) = half-blocks ls c p q front back hs f x xs w in
+    let m : map spotBlock (halfway ls c p q front back hs) ≡ blocks (ls ++ from f x xs ∷ hs) = half-blocks ls c p q front back hs f x xs w in
     kept-lined R (halfway ls c p q front back hs)
     (all-append (all-left SitsAt (spots 0 ls) (spots (length ls) (from f x xs ∷ hs)) (subst (All SitsAt) (spots-in ls (from f x xs ∷ hs)) (spots-sit n 0 0 (ls ++ from f x xs ∷ hs) (v .fit))))
     (all-append (all-append (row-sits c p front (all-left (Sits c) front back s)) (row-sits c q back (all-right (Sits c) front back s)))
@@ -74,7 +74,7 @@ half-kept R ls c f x xs hs v k p q front back w lo mid hi =
     (lined-append p q g (row c p front) (row c q back) (row-lined c p q front mid) (row-lined c q g back (omega arith)))
     (spots-lined n (suc c) g hs hi))))
     (subst (Pairs Other) (sym m) (v .distinct))
-    (omega (arith, length-map (halfway ls c p q front back hs) blockOf, ap length m, v .few))
+    (omega (arith, length-map (halfway ls c p q front back hs) spotBlock, ap length m, v .few))
 
 among : (l r : List Spot) (s : Spot) {xs ys : List Spot} → Perm xs (s ∷ ys) → Perm (l ++ (xs ++ r)) (s ∷ (l ++ (ys ++ r)))
 among l r s {ys = ys} p = ptrans (pleft l (pright r p)) (pfront s l (ys ++ r))
@@ -167,7 +167,7 @@ module _ (R : ℕ) (zs : List Zone) (c : ℕ) (z : Here R zs c) where
   halfBytes p q j = held R es (half p q j)
 
   -- from p on it fits behind the lower zones, from q on before the higher ones
-  pub record Between (p q : ℕ) : Type 0 where
+  pub record Reach (p q : ℕ) : Type 0 where
     pub low : endAfter 0 0 (z .lower) ≤ p
     pub order : p ≤ q
     pub high : Fit (8 * R) (suc c) (q + suc (length (z .tail)) * cells c) (z .higher)
@@ -190,7 +190,7 @@ module _ (R : ℕ) (zs : List Zone) (c : ℕ) (z : Here R zs c) where
       ap (held R es) (ap₂ (λ (x y : List Block). halfway (z .lower) c p (q + n * cells c) x y (z .higher)) t d
       ∙ ap (λ (l : List Spot). spots 0 (z .lower) ++ (l ++ spots (suc c) (z .higher))) (append-nil (row c p bs)) ∙ sym (spots-at p))
 
-  module _ (p q : ℕ) (w : Between p q) where
+  module _ (p q : ℕ) (w : Reach p q) where
     half-apart : (j : ℕ) → j ≤ length bs → Kept R (half p q j)
     half-apart j g =
         let t : length (take j bs) ≡ j = omega (arith, length-take j bs) in
@@ -232,5 +232,5 @@ rebased-at ls z hs c to e =
 
 pub loose-kept : (R : ℕ) (zs : List Zone) → Loose R zs → Kept R (spots 0 zs)
 loose-kept R zs v =
-    let b : map blockOf (spots 0 zs) ≡ blocks zs = spots-blocks 0 zs in
-    kept-lined R (spots 0 zs) (spots-sit (8 * R) 0 0 zs (v .fit)) (spots-lined (8 * R) 0 0 zs (v .fit)) (subst (Pairs Other) (sym b) (v .distinct)) (omega (arith, length-map (spots 0 zs) blockOf, ap length b, v .few))
+    let b : map spotBlock (spots 0 zs) ≡ blocks zs = spots-blocks 0 zs in
+    kept-lined R (spots 0 zs) (spots-sit (8 * R) 0 0 zs (v .fit)) (spots-lined (8 * R) 0 0 zs (v .fit)) (subst (Pairs Other) (sym b) (v .distinct)) (omega (arith, length-map (spots 0 zs) spotBlock, ap length b, v .few))

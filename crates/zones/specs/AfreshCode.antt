@@ -17,7 +17,7 @@ use Rattle.home.specs.Layout.{Valid}
 use Rattle.home.specs.Cases.{isSome, orElse, holds-some}
 use Rattle.home.specs.FindLaws.{lacks-has}
 use Rattle.home.specs.PlaceLaws.{Placed}
-use Rattle.home.specs.AfreshLaws.{afresh-length, afresh-blocks, laid-holds}
+use Rattle.home.specs.AfreshLaws.{afresh-length, afresh-blocks, laid-holds, fit-total}
 use Rattle.home.specs.Bytes.{encode, decode, firstAt, manyAt}
 use Rattle.home.specs.Sound.{pagesOf}
 use Rattle.moves.specs.HomeLaws.{Loose}
@@ -30,7 +30,7 @@ use Rattle.zones.specs.SoundLaws.{sound-valid, valid-loose}
 use Rattle.zones.specs.Place.{blockIn, placedIn, Placeable, withBlock}
 use Rattle.zones.specs.PlaceLaws.{zone-is, sound-stored, Puts, puts-at, Fitting, fitting-under, fitting-sits, fitting-fits, fitting-bytes}
 use Rattle.zones.specs.Afresh.{lowerLaid, higherLaid, Layable, laidIn, settledIn}
-use Rattle.zones.specs.AfreshLaws.{Down, Up, Way, afresh-end, higher-loose, lower-next, lower-zone, zone-down, zone-up, lower-all, fit-total, total-next, total-split, total-drop, zone-way, lay-some, lay-none}
+use Rattle.zones.specs.AfreshLaws.{Down, Up, Way, afresh-end, higher-loose, lower-next, lower-zone, zone-down, zone-up, lower-all, total-next, total-split, total-drop, zone-way, lay-some, lay-none}
 
 -- ---- the bytes of a layout that is valid but for its gaps
 
@@ -64,7 +64,7 @@ unfolding total
 sum-start h s = record { stored = s; under = omega arith; is = refl }
 
 low-total : (h : List ℕ) (c : ℕ) → Stored h → c ≤ 30 → total cells 0 (take c (decode h)) ≤ 8192
-low-total h c s g = omega (arith, total-split (decode h) c (omega (arith, s .loose .classes)), fit-total (8 * pagesOf h) 0 0 (decode h) (s .loose .fit), s .pages)
+low-total h c s g = omega (arith, total-split (decode h) c (omega (arith, s .loose .classes)), fit-total cells classOf (8 * pagesOf h) 0 0 (decode h) (s .loose .fit), s .pages)
 
 module _ (h : List ℕ) (sum c n k : ℕ) (s : Summing h sum c) (g : c < 30) (en : n ≡ manyAt h c) (ek : k ≡ cells c) where
   pub sum-next : Summing h (sum + n * k) (c + 1)

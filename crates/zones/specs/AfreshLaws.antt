@@ -6,12 +6,14 @@ use Prim.Native.Nat.{ℕ, suc, _+_, _*_, _≤_, _<_}
 use native.Mathlib.Omega.{arith}
 use lib.ListN.{length, take, drop, getD, take-append-drop, length-append, length-take}
 use borrow.Author.Tests.{le-leb, lt-leb}
-use Rattle.home.specs.Capacities.{cells}
+use Rattle.home.specs.Capacities.{cells, classOf}
+use Rattle.home.specs.CapacitiesLaws.{cells-pos}
 use Rattle.home.specs.Zones.{Block, Zone, empty, from, blocks, added, endOf, based, joined, total, afresh, layAfresh}
 use Rattle.home.specs.Perm.{Pairs}
 use Rattle.home.specs.Valid.{Other}
 use Rattle.home.specs.Layout.{Fit}
-use Rattle.home.specs.AfreshLaws.{afresh-length, afresh-blocks, joined-total}
+use Rattle.home.specs.AreaLaws.{laid-fit}
+use Rattle.home.specs.AfreshLaws.{afresh-length, afresh-blocks, joined-total, fit-seated, afresh-laid}
 use Rattle.moves.specs.HomeLaws.{Loose}
 use Rattle.moves.specs.StepLaws.{firstOf, manyOf}
 use Rattle.moves.specs.LooseLaws.{fit-lower, fit-above, fit-joined, blocks-append}
@@ -54,11 +56,7 @@ afresh-end c e (z ∷ zs) = afresh-end (suc c) (endOf cells c e (based e z)) zs 
 
 -- zones fit from any cell on from which the sizes of their blocks do
 afresh-fit : (n c e e' : ℕ) (zs : List Zone) → Fit n c e' zs → e + total cells c zs ≤ n → Fit n c e (afresh cells c e zs)
-unfolding afresh total
-afresh-fit n c e e' [] h r = omega arith
-afresh-fit n c e e' (empty ∷ zs) h r = afresh-fit n (suc c) e e' zs h r
-afresh-fit n c e e' (from f x xs ∷ zs) h r =
-    (record { after = omega arith; sit = h .0 .sit }, afresh-fit n (suc c) (e + suc (length xs) * cells c) (f + suc (length xs) * cells c) zs (h .1) (omega arith))
+afresh-fit n c e e' zs h r = laid-fit n c e (afresh cells c e zs) (afresh-laid cells classOf cells-pos n c e zs (fit-seated cells classOf n c e' zs h) r)
 
 -- and before others from any lower cell on
 lower-fit : (n c e e' : ℕ) (ls hs : List Zone) → e ≤ e' → Fit n c e' (ls ++ hs) → Fit n c e (afresh cells c e ls ++ hs)
@@ -106,13 +104,14 @@ lower-zone zs c g =
     (λ ls z hs. ap₂ (λ (l r : List Zone). getD (afresh cells 0 0 l ++ r) (length ls) empty) (take-here ls z hs) (drop-here ls z hs)
     ∙ subst (λ (k : ℕ). getD (afresh cells 0 0 ls ++ z ∷ hs) k empty ≡ z) (afresh-length cells 0 0 ls) (zone-here (afresh cells 0 0 ls) z hs) ∙ sym (zone-here ls z hs))
 
--- zone c of those that come to lie from e on, which starts at e or above, or at e or below
+-- zone c, the lowest of those that come to lie from e on, which starts at e or above. The next one comes to lie from e' on.
 pub record Down (R : ℕ) (zs : List Zone) (c e e' : ℕ) : Type 0 where
   pub loose : Loose R (rebased zs c e)
   pub low : endAfter 0 0 (take (suc c) (rebased zs c e)) ≤ e'
   pub rest : drop (suc c) (rebased zs c e) ≡ drop (suc c) zs
   pub same : higherLaid (rebased zs c e) (suc c) e' ≡ higherLaid zs c e
 
+-- it starts at e or below
 pub record Up (zs : List Zone) (c e e' : ℕ) : Type 0 where
   pub low : endAfter 0 0 (take (suc c) zs) ≤ e'
   pub same : rebased (higherLaid zs (suc c) e') c e ≡ higherLaid zs c e
@@ -186,12 +185,6 @@ lower-all R zs c v = lower-loose R (take c zs) (drop c zs) (subst (Loose R) (sym
 
 -- ---- sizes by class
 
-pub fit-total : (n c e : ℕ) (zs : List Zone) → Fit n c e zs → e + total cells c zs ≤ n
-unfolding total
-fit-total n c e [] h = omega arith
-fit-total n c e (empty ∷ zs) h = fit-total n (suc c) e zs h
-fit-total n c e (from f x xs ∷ zs) h = omega (arith, fit-total n (suc c) (f + suc (length xs) * cells c) zs (h .1), h .0 .after)
-
 pub total-next : (zs : List Zone) (c : ℕ) → c < length zs → total cells 0 (take (suc c) zs) ≡ total cells 0 (take c zs) + manyOf (getD zs c empty) * cells c
 unfolding total
 total-next zs c g =
@@ -217,7 +210,7 @@ unfolding based added
 based-added e b empty = refl
 based-added e b (from f x xs) = refl
 
--- with k cells left free behind zone c, and with a block there
+-- with the cells of a block left free behind zone c, and with the block there
 pub record Way (zs : List Zone) (b : Block) (c : ℕ) : Type 0 where
   pub lower : List Zone
   pub here : Zone
