@@ -1,5 +1,5 @@
 -- What the edits answer and leave, case by case.
-use mathlib.Core.Path.{_≡_, refl, sym, ap, ap₂, _∙_, subst}
+use mathlib.Core.Path.{_≡_, refl, sym, ap, ap₂, _∙_}
 use mathlib.Core.Bool.{true, false}
 use mathlib.Core.Logic.{_≢_}
 use mathlib.Core.Option.{Option, none, some}
@@ -29,7 +29,6 @@ use Rattle.home.specs.AfreshLaws.{size-some}
 use Rattle.home.specs.Edits.{edited, put, delete, setMinutes, dropTag}
 use Rattle.home.specs.EditsLaws.{length-amend, shorter, exactly, had-size, total-low, empty-unknown}
 use Rattle.home.specs.HomeLaws.{all-mem}
-use Rattle.home.specs.EntriesLaws.{tag-count}
 use Rattle.home.specs.Bytes.{encode, decode}
 use Rattle.home.specs.Sound.{sound, pagesOf, listOf}
 use Rattle.home.specs.SoundLaws.{encode-decode}
@@ -37,8 +36,8 @@ use Rattle.home.specs.Lookup.{slotOf}
 use Rattle.home.specs.LookupTurns.{list-none}
 use Rattle.home.specs.FindLaws.{find-none, lacks-has}
 use Rattle.edits.specs.declared.Answer.the-variants.{Count, Refused}
-use Rattle.moves.specs.Room.{settled}
-use Rattle.zones.specs.SoundLaws.{sound-small, sound-valid}
+use Rattle.moves.specs.Stored.{settled}
+use Rattle.zones.specs.SoundLaws.{sound-valid, sound-tags}
 use Rattle.zones.specs.Place.{Placeable}
 use Rattle.zones.specs.Afresh.{settledIn}
 use Rattle.lists.specs.Lists.{setHere}
@@ -70,7 +69,7 @@ rising-one r = rw (le-leb 0 (key r) (omega arith))
 
 -- ---- with room, or none
 
-edited-some : (R : ℕ) (h : List ℕ) (m : ℕ) (zs : List Zone) (o : Option (List Zone)) → isSome o ≡ true → (Count m ≡ told (edited m zs o .answer)) × (settled R h [] o ≡ encode R (edited m zs o .layout))
+edited-some : (R : ℕ) (h : List ℕ) (m : ℕ) (zs : List Zone) (o : Option (List Zone)) → isSome o ≡ true → (Count m ≡ told (edited m zs o .answer)) × (settled R h o ≡ encode R (edited m zs o .layout))
 unfolding edited settled told isSome
 edited-some R h m zs none i = never i
 edited-some R h m zs (some zs') i = (refl, refl)
@@ -80,7 +79,7 @@ unfolding edited told isSome
 edited-none R h m zs none e i = (refl, e)
 edited-none R h m zs (some zs') e i = never (sym i)
 
-settled-none : (R : ℕ) (h : List ℕ) (o : Option (List Zone)) → isSome o ≡ false → settled R h [] o ≡ h
+settled-none : (R : ℕ) (h : List ℕ) (o : Option (List Zone)) → isSome o ≡ false → settled R h o ≡ h
 unfolding settled isSome
 settled-none R h none i = refl
 settled-none R h (some zs) i = never (sym i)
@@ -230,18 +229,15 @@ module _ (h : List ℕ) (t : ℕ) (s : sound h ≡ true) (no : hasTag t (blocks 
   unfolding dropTag told
   drop-unknown = rw no (refl, stays)
 
-  pub tags : get16 h 0 ≡ length (blocks (decode h))
-  tags = subst (λ (l : List ℕ). get16 l 0 ≡ length (blocks (decode h))) (sym stays) (tag-count (pagesOf h) (decode h) (sound-valid h s) (sound-small h s))
-
   pub put-tags : (r : Record) → get16 h 0 ≡ 256 → (Refused 11 ≡ told (putIn h t r .answer)) × (h ≡ leaves h (putIn h t r))
   unfolding put told look
   put-tags r e =
-      let g : ltb (length (blocks (decode h))) 256 ≡ false = le-ltb (length (blocks (decode h))) 256 (omega (arith, tags)) in
+      let g : ltb (length (blocks (decode h))) 256 ≡ false = le-ltb (length (blocks (decode h))) 256 (omega (arith, sound-tags h s)) in
       rw (nothing-found, no, g) (refl, stays)
 
   module _ (few : get16 h 0 ≢ 256) (r : Record) (fits : Fits r) (bs : List ℕ) (e : bs ≡ recordBytes (r ∷ [])) where
     fewer : length (blocks (decode h)) < 256
-    fewer = omega (arith, tags, sound-valid h s .few)
+    fewer = omega (arith, sound-tags h s, sound-valid h s .few)
 
     one : length bs / 8 ≡ 1
     one = omega (arith, ap length e, length-encode (r ∷ []))
@@ -266,8 +262,8 @@ module _ (h : List ℕ) (t : ℕ) (s : sound h ≡ true) (no : hasTag t (blocks 
         let g : ltb (length (blocks (decode h))) 256 ≡ true = lt-ltb (length (blocks (decode h))) 256 fewer in
         rw (nothing-found, no, g, read, one)
 
-    pub new-done : (x : List ℕ) → isSome (settledIn h t bs) ≡ true → x ≡ settled (pagesOf h) h [] (settledIn h t bs) → (Count 1 ≡ told (putIn h t r .answer)) × (x ≡ leaves h (putIn h t r))
+    pub new-done : (x : List ℕ) → isSome (settledIn h t bs) ≡ true → x ≡ settled (pagesOf h) h (settledIn h t bs) → (Count 1 ≡ told (putIn h t r .answer)) × (x ≡ leaves h (putIn h t r))
     new-done x i y = rw (y, new-edited) (edited-some (pagesOf h) h 1 (decode h) (settledIn h t bs) i)
 
-    pub new-no-room : (x : List ℕ) → isSome (settledIn h t bs) ≡ false → x ≡ settled (pagesOf h) h [] (settledIn h t bs) → (Refused 12 ≡ told (putIn h t r .answer)) × (x ≡ leaves h (putIn h t r))
+    pub new-no-room : (x : List ℕ) → isSome (settledIn h t bs) ≡ false → x ≡ settled (pagesOf h) h (settledIn h t bs) → (Refused 12 ≡ told (putIn h t r .answer)) × (x ≡ leaves h (putIn h t r))
     new-no-room x i y = rw (y, settled-none (pagesOf h) h (settledIn h t bs) i, new-edited) (edited-none (pagesOf h) h 1 (decode h) (settledIn h t bs) stays i)

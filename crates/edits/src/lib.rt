@@ -21,7 +21,7 @@ ghost use Prim.Native.Nat.{_<_};
 ghost use Rattle.home.specs.Zones.{blocks, hasTag};
 ghost use Rattle.home.specs.Bytes.{decode};
 ghost use Rattle.home.specs.Sound.{sound};
-ghost use Rattle.moves.specs.Room.{Stored};
+ghost use Rattle.moves.specs.Stored.{Stored};
 ghost use Rattle.lists.specs.Listed.{Listed, Placed};
 ghost use Rattle.edits.specs.Edits.{told, putIn, deleteIn, setIn, dropIn, leaves, fitsAfter};
 

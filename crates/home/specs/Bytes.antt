@@ -1,7 +1,7 @@
 -- The bytes of home: a layout to bytes, and back.
 use mathlib.Core.List.{List, [], _∷_, _++_, map}
 use Prim.Native.Nat.{ℕ, zero, suc, _+_, _*_, _-_}
-use lib.Dec.{ltb}
+use lib.Dec.{ltb, eqb}
 use lib.ListN.{length, replicate}
 use Rattle.wire.specs.Bytes.{pick, over, get16, get32, bytes16, bytes32}
 use Rattle.records.specs.Records.{records, encode as recordBytes}
@@ -124,6 +124,11 @@ manyAt h c = get16 h (entryAt c + 2)
 unfoldable pub zoneAt : List ℕ → ℕ → Zone
 unfolding get16 blocksAt zone
 zoneAt h c = zone (firstAt h c) (blocksAt h c (firstAt h c) (manyAt h c))
+
+-- where it ends, if the lower zones end at e: an empty one changes nothing
+unfoldable pub endAt : List ℕ → ℕ → ℕ → ℕ
+unfolding get16 cells
+endAt h c e = pick (eqb (manyAt h c) 0) e (firstAt h c + manyAt h c * cells c)
 
 -- n zones from class c on
 unfoldable pub zonesFrom : List ℕ → ℕ → ℕ → List Zone

@@ -9,7 +9,7 @@ use lib.Dec.{leb}
 use lib.ListN.{length, drop, getD}
 use lib.Seq.{getD-take}
 use borrow.Author.Tests.{leb-true, leb-false}
-use Rattle.wire.specs.Cases.{by-lt, both}
+use Rattle.wire.specs.Cases.{by-lt, by-eq, both}
 use Rattle.home.specs.Capacities.{capacities, capacity, under, cells, classFrom, classOf, table, short}
 use Rattle.home.specs.Cases.{by-pick}
 use Rattle.home.specs.Table.{table-at}
@@ -53,6 +53,10 @@ getD-mono a (b ∷ bs) d (suc c) h = getD-mono b bs d c (both (leb a b) (never-f
 pub cells-mono : (c : ℕ) → cells c ≤ cells (suc c)
 unfolding cells never-falls
 cells-mono c = suc-le-suc (getD-mono 4 (drop 1 capacities) 989 c refl)
+
+pub cells-rise : (c d : ℕ) → c ≤ d → cells c ≤ cells d
+cells-rise c zero g = let e : c ≡ 0 = omega arith in rw e (omega arith)
+cells-rise c (suc d) g = by-eq c (suc d) (λ e. rw e (omega arith)) (λ n. omega (arith, cells-rise c d (omega arith), cells-mono d))
 
 pub cells-pos : (c : ℕ) → 0 < cells c
 unfolding cells

@@ -35,3 +35,4 @@ pub mod EmptyLaws
 pub mod LookupLaws
 pub mod Lookup
 pub mod LookupTurns
+pub mod EndLaws

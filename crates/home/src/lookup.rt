@@ -1,11 +1,12 @@
 // Reading home: zones, the dictionary, and a tag's list.
+use crate::classes::cells;
 ghost use mathlib.Core.Path.{_≡_};
 ghost use mathlib.Core.Bool.{true};
 ghost use Prim.Native.Nat.{_≤_, _<_};
 ghost use lib.ListN.{length};
 ghost use Rattle.wire.specs.Bytes.{get16};
 ghost use Rattle.records.specs.Records.{encode as recordBytes};
-ghost use Rattle.home.specs.Bytes.{firstAt, manyAt};
+ghost use Rattle.home.specs.Bytes.{firstAt, manyAt, endAt};
 ghost use Rattle.home.specs.Sound.{sound as isSound, listOf};
 ghost use Rattle.home.specs.Lookup.{Ordered, indexOf, slotOf};
 
@@ -29,6 +30,18 @@ pub fn zone_count(home: &[u8], c: usize) -> usize
     ensures { λ r. ⌜ (r ≡ manyAt (now (home .entry)) c) × (r < 65536) ⌝ }
 {
     wire::get16(home, 2 + 4 * c + 2)
+}
+
+// Where it ends, if the lower zones end at e. An empty one changes nothing.
+pub fn zone_end(home: &[u8], c: usize, e: usize) -> usize
+    requires { ⌜ (c < 30) × (1664 ≤ length (now home)) ⌝ }
+    ensures { λ r. ⌜ r ≡ endAt (now (home .entry)) c e ⌝ }
+{
+    let n = zone_count(home, c);
+    if n == 0 {
+        return e;
+    }
+    zone_first(home, c) + n * cells(c)
 }
 
 // The number of a tag's entry in the dictionary, or of the one that it would be, by halving.

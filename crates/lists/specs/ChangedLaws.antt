@@ -30,7 +30,7 @@ use Rattle.home.specs.Sound.{sound, pagesOf, listOf}
 use Rattle.home.specs.SoundLaws.{sound-encode}
 use Rattle.moves.specs.HomeLaws.{Loose}
 use Rattle.moves.specs.StepLaws.{home-list-set}
-use Rattle.moves.specs.Room.{settled}
+use Rattle.moves.specs.Stored.{settled}
 use Rattle.moves.specs.CloseLaws.{decode-loose, pages-loose}
 use Rattle.home.specs.Afresh.{justBefore}
 use Rattle.home.specs.AfreshLaws.{change-settles}
@@ -65,7 +65,7 @@ pub list-read : (rs : List Record) → Proper rs → (bs : List ℕ) → bs ≡ 
 list-read rs ok bs e = ap recordsIn e ∙ decode-encode rs (all-mem rs (ok .fits))
 
 -- where there is a layout, the old bytes do not matter
-settled-any : (R : ℕ) (h h' : List ℕ) (o : Option (List Zone)) → isSome o ≡ true → settled R h [] o ≡ settled R h' [] o
+settled-any : (R : ℕ) (h h' : List ℕ) (o : Option (List Zone)) → isSome o ≡ true → settled R h o ≡ settled R h' o
 unfolding settled isSome
 settled-any R h h' none i = never i
 settled-any R h h' (some zs) i = refl
@@ -95,7 +95,7 @@ module _ (h : List ℕ) (t p n : ℕ) (l : Listed h t p n) where
       let k : change (8 * R) t (r ∷ rs) zs ≡ some (rewritten t (r ∷ rs) zs) = keeps-class r rs e in
       let w : Changed cells classOf t (8 * R) (r ∷ rs) zs (rewritten t (r ∷ rs) zs) = subst (Holds (Changed cells classOf t (8 * R) (r ∷ rs) zs)) k
       (holds-changed (8 * R) t zs (sound-valid h (l .sound)) small (r ∷ rs) q (free-any (8 * R) t zs (sound-valid h (l .sound)) small (r ∷ rs) (listed-has h t p n l))) in
-      rewritten-known R h zs t (classOf n) p (listed-known h t p n l) (r ∷ rs) (valid-loose R (rewritten t (r ∷ rs) zs) (w .valid)) ∙ sym (ap (settled R h []) k)
+      rewritten-known R h zs t (classOf n) p (listed-known h t p n l) (r ∷ rs) (valid-loose R (rewritten t (r ∷ rs) zs) (w .valid)) ∙ sym (ap (settled R h) k)
 
   -- ---- in none
 
@@ -149,16 +149,16 @@ module _ (h : List ℕ) (t p n : ℕ) (l : Listed h t p n) where
       }
 
       -- where there is room
-      moved-changed : (x : List ℕ) → 0 < length rs → classOf (length rs) ≢ classOf n → isSome (change (8 * R) t rs zs) ≡ true → x ≡ settled (pagesOf h') h' [] (settledIn h' t bs) → x ≡ changed h t rs
+      moved-changed : (x : List ℕ) → 0 < length rs → classOf (length rs) ≢ classOf n → isSome (change (8 * R) t rs zs) ≡ true → x ≡ settled (pagesOf h') h' (settledIn h' t bs) → x ≡ changed h t rs
       moved-changed x g d i y =
           let s : settledIn h' t bs ≡ change (8 * R) t rs zs = rw (read, many, pages, zones) (sym (other-class rs g d)) in
-          y ∙ ap₂ (λ (m : ℕ) (o : Option (List Zone)). settled m h' [] o) pages s ∙ settled-any R h' h (change (8 * R) t rs zs) i
+          y ∙ ap₂ (λ (m : ℕ) (o : Option (List Zone)). settled m h' o) pages s ∙ settled-any R h' h (change (8 * R) t rs zs) i
 
 module _ (h : List ℕ) (t p n : ℕ) (bs : List ℕ) (m : Moving h t p n bs) (h' : List ℕ) (q : h' ≡ encode (pagesOf h) (takeOut cells t 0 0 (decode h))) where
   pub moving-placeable : Placeable h' t bs
   moving-placeable = moved-placeable h t p n (m .listed) h' q (m .list) (m .proper) bs (m .bytes) (m .some)
 
-  pub moving-changed : (x : List ℕ) → x ≡ settled (pagesOf h') h' [] (settledIn h' t bs) → x ≡ changed h t (recordsIn bs)
+  pub moving-changed : (x : List ℕ) → x ≡ settled (pagesOf h') h' (settledIn h' t bs) → x ≡ changed h t (recordsIn bs)
   moving-changed x y =
       moved-changed h t p n (m .listed) h' q (m .list) (m .proper) bs (m .bytes) x (m .some) (m .class) (m .room) y
       ∙ ap (changed h t) (sym (list-read (m .list) (m .proper) bs (m .bytes)))

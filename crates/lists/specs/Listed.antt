@@ -2,7 +2,7 @@
 use mathlib.Core.Path.{_≡_}
 use mathlib.Core.Bool.{true, false}
 use mathlib.Core.Logic.{_≢_}
-use mathlib.Core.List.{List, [], _++_}
+use mathlib.Core.List.{List, _++_}
 use Prim.Native.Nat.{ℕ, suc, _*_, _<_}
 use lib.ListN.{length, take, drop}
 use Rattle.records.specs.declared.Record.{Record}
@@ -15,7 +15,7 @@ use Rattle.home.specs.Bytes.{decode, countAt, placeAt}
 use Rattle.home.specs.Sound.{sound, pagesOf, listOf}
 use Rattle.home.specs.declared.lookup.Slot.the-variants.{At}
 use Rattle.home.specs.Lookup.{slotOf}
-use Rattle.moves.specs.Room.{settled}
+use Rattle.moves.specs.Stored.{settled}
 
 -- a sound home in which tag t has a block of n records at cell p
 pub record Listed (h : List ℕ) (t p n : ℕ) : Type 0 where
@@ -43,7 +43,7 @@ pub record Ranked (h : List ℕ) (t p n j : ℕ) : Type 0 where
 
 -- home's bytes once tag t's list is rs; as they were where there is no room
 abbrev pub changed : List ℕ → ℕ → List Record → List ℕ
-changed h t rs = settled (pagesOf h) h [] (change (8 * pagesOf h) t rs (decode h))
+changed h t rs = settled (pagesOf h) h (change (8 * pagesOf h) t rs (decode h))
 
 -- a list without its j-th record
 abbrev pub without : ℕ → List Record → List Record

@@ -41,8 +41,8 @@ over-same l i v b e =
     (λ a c. at-in l i v k a c (omega (arith, length-over l i v)) ∙ ap (λ (x : List ℕ). getD x (k - i) 0) (sym e) ∙ part-at l i (length v) (k - i) (omega arith) ∙ ap (λ (j : ℕ). getD l j 0) (omega arith))
     (λ a. over-high l i v k a))
 
-pub over-comm : (l : List ℕ) (i : ℕ) (v : List ℕ) (j : ℕ) (w : List ℕ) → Clear i (length v) j (length w) → i + length v ≤ length l → j + length w ≤ length l → over (over l j w) i v ≡ over (over l i v) j w
-over-comm l i v j w c a b =
+pub over-comm : (l : List ℕ) (i : ℕ) (v : List ℕ) (j : ℕ) (w : List ℕ) → Clear i (length v) j (length w) → over (over l j w) i v ≡ over (over l i v) j w
+over-comm l i v j w c =
     ext-getD 0 (over (over l j w) i v) (over (over l i v) j w) (length-over (over l j w) i v ∙ length-over l j w ∙ sym (length-over (over l i v) j w ∙ length-over l i v))
     (λ k g. at c k (omega (arith, length-over (over l j w) i v, length-over l j w)))
   where
@@ -91,7 +91,6 @@ module _ (n : ℕ) (a : List ℕ) (la : length a ≡ 8 * n) where
   paint-perm (pswap s t ss) (more x (more y g)) (after (more z k) h) =
       over-comm (paint ss a) (8 * s .cell) (bytesOf s) (8 * t .cell) (bytesOf t)
       (rw (length-block (s .class) (s .block) (x .room), length-block (t .class) (t .block) (y .room)) (clear8 (s .cell) (cells (s .class)) (t .cell) (cells (t .class)) z))
-      (inside s ss x) (inside t ss y)
   paint-perm (ptrans p q) g h = paint-perm p g h ∙ paint-perm q (pall (Good n) p g) (ppairs Apart apart-sym p h)
 
 -- a block taken away: its cells become zero

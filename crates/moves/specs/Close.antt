@@ -7,7 +7,7 @@ use Rattle.home.specs.Capacities.{cells}
 use Rattle.home.specs.Zones.{Zone, empty, from, lowered, endOf, close}
 use Rattle.home.specs.Bytes.{encode}
 use Rattle.moves.specs.HomeLaws.{Loose}
-use Rattle.moves.specs.Room.{endAfter}
+use Rattle.moves.specs.Stored.{endAfter}
 
 -- zone c as low as it goes above e
 unfoldable pub lowest : ℕ → ℕ → Zone → Zone

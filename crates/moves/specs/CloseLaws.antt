@@ -26,8 +26,8 @@ use Rattle.moves.specs.Moves.{Movable, zoned, moved}
 use Rattle.moves.specs.SpotLaws.{spot, in-context, init-last, length-init, lower-before}
 use Rattle.moves.specs.StepLaws.{firstOf, manyOf, home-lowered}
 use Rattle.moves.specs.LooseLaws.{length-loose, entries-loose, zone-at, movable, fit-lower, fit-above, loose-joined}
-use Rattle.moves.specs.Room.{endAfter}
-use Rattle.moves.specs.RoomLaws.{at-zone, take-here, drop-next, zone-here, take-next, drop-here, end-next}
+use Rattle.moves.specs.Stored.{endAfter}
+use Rattle.moves.specs.AtLaws.{at-zone, take-here, drop-next, zone-here, take-next, drop-here, end-next}
 use Rattle.moves.specs.Close.{lowest, zoneOf, lowBytes, lowEnd, Open, closedBytes}
 
 -- ---- the layout read back

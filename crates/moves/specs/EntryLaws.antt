@@ -205,7 +205,7 @@ module _ (pre post : List Entry) where
       let long : i + (k + 6) ≤ length l = rw length-long (omega (arith, length-front)) in
       ap (λ (m : List ℕ). over (over m (i + 6) (part m i k)) i (word x)) (without g)
       ∙ ap (λ (m : List ℕ). over (over l (i + 6) m) i (word x)) r
-      ∙ over-comm l i (word x) (i + 6) back (inl (omega (arith, length-word x))) (omega (arith, length-word x)) (omega arith)
+      ∙ over-comm l i (word x) (i + 6) back (inl (omega (arith, length-word x)))
       ∙ ap (λ (j : ℕ). over (over l i (word x)) (i + j) back) (sym (length-word x))
       ∙ over-append l i (word x) back
       ∙ over-seam front (back ++ replicate 6 0) z (word x ++ back) i length-front (length-append back (replicate 6 0) ∙ omega (arith, length-word x) ∙ sym (length-append (word x) back))

@@ -27,7 +27,7 @@ use Rattle.moves.specs.EntryLaws.{Small, perm-sorted, sorted-perm, sorte
 use Rattle.moves.specs.StateLaws.{state, Fine, ld, state-zoned, state-movable, state-moved}
 use Rattle.moves.specs.HomeLaws.{Loose, pmap, small-entries, encode-state}
 use Rattle.moves.specs.SpotLaws.{spot}
-use Rattle.moves.specs.Room.{endAfter}
+use Rattle.moves.specs.Stored.{endAfter}
 
 abbrev pub spotBlock : Spot → Block
 spotBlock s = s .block

@@ -7,12 +7,12 @@ pub mod EntryLaws
 pub mod StateLaws
 pub mod HomeLaws
 pub mod StepLaws
-pub mod Room
+pub mod Stored
 pub mod LooseLaws
-pub mod RoomLaws
-pub mod CodeLaws
+pub mod AtLaws
 pub mod Close
 pub mod CloseLaws
+pub mod CloseCode
 pub mod HeldLaws
 pub mod Slide
 pub mod SlideLaws

@@ -15,7 +15,8 @@ use Rattle.home.specs.Valid.{Other}
 use Rattle.home.specs.Layout.{Sits, Fit}
 use Rattle.home.specs.Cases.{by-pick, Holds, holds-map}
 use Rattle.home.specs.PlaceLaws.{length-snoc}
-use Rattle.home.specs.Bytes.{Spot, spots, Entry, entryOf, sorted, dictionary, padded, entries, area, encode, firstAt, manyAt}
+use Rattle.home.specs.Bytes.{Spot, spots, Entry, entryOf, sorted, dictionary, padded, entries, area, encode, decode, firstAt, manyAt}
+use Rattle.home.specs.Sound.{pagesOf}
 use Rattle.home.specs.AreaLaws.{length-area}
 use Rattle.home.specs.HomeLaws.{Entries, entries-read, encode-entries}
 use Rattle.home.specs.DictionaryLaws.{Below, dictionary-rising}
@@ -24,7 +25,7 @@ use Rattle.moves.specs.JoinLaws.{join-length}
 use Rattle.moves.specs.EntryLaws.{Parted, kept, sorted-one}
 use Rattle.moves.specs.StateLaws.{state, Fine, ld, state-movable}
 use Rattle.moves.specs.StepLaws.{firstOf, manyOf}
-use Rattle.moves.specs.Room.{endAfter}
+use Rattle.moves.specs.Stored.{Stored, endAfter}
 use Rattle.moves.specs.HomeLaws.{Loose, length-zones, fine, encode-state, area-bears, others, dictionary-as}
 
 -- ---- zones' entries
@@ -66,6 +67,14 @@ module _ (R : ℕ) (small : R ≤ 1024) (zs : List Zone) (v : Loose R zs) where
       let d : ds ≡ k .pre ++ x ∷ k .post = dictionary-as R small zs v (s ∷ ss) p ∙ sorted-one x (map entryOf ss) k in
       subst (λ (h : List ℕ). Movable h (s .cell)) (sym (encode-state R small zs v ∙ ap (λ (l : List Entry). state es l a) d))
       (state-movable es le (k .pre) (k .post) a (x .tag) (k .low) (k .high) x (s .cell) refl (subst Fine d ok) (subst (Pairs Below) d (dictionary-rising zs (v .distinct))) (area-bears R small zs v s ss p))
+
+pub stored-long : (h : List ℕ) → Stored h → length h ≡ 1664 + 64 * pagesOf h
+stored-long h s = ap length (s .bytes) ∙ length-loose (pagesOf h) (s .pages) (decode h) (s .loose)
+
+pub zone-is : (h : List ℕ) → Stored h → (c : ℕ) → c < 30 → (firstAt h c ≡ firstOf (getD (decode h) c empty)) × (manyAt h c ≡ manyOf (getD (decode h) c empty))
+zone-is h s c g =
+    let z : Zone = getD (decode h) c empty in
+    subst (λ (l : List ℕ). (firstAt l c ≡ firstOf z) × (manyAt l c ≡ manyOf z)) (sym (s .bytes)) (zone-at (pagesOf h) (s .pages) (decode h) (s .loose) c g)
 
 -- ---- higher zones exchanged
 

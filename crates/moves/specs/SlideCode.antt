@@ -18,8 +18,8 @@ use Rattle.moves.specs.Moves.{Movable, zoned, moved}
 use Rattle.moves.specs.HomeLaws.{Loose, length-zones}
 use Rattle.moves.specs.StepLaws.{firstOf, manyOf, zone-set}
 use Rattle.moves.specs.LooseLaws.{zone-at, length-loose, fit-above}
-use Rattle.moves.specs.Room.{endAfter}
-use Rattle.moves.specs.RoomLaws.{at-zone, zone-here}
+use Rattle.moves.specs.Stored.{endAfter}
+use Rattle.moves.specs.AtLaws.{at-zone, zone-here}
 use Rattle.moves.specs.HeldLaws.{held, held-zoned, encode-held}
 use Rattle.moves.specs.Slide.{rebased, Slides, slid, Going}
 use Rattle.moves.specs.SlideLaws.{Here, startingAt, halfBytes, Reach, half-none, half-all, half-moves, rebased-at, loose-kept}

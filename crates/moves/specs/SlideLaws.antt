@@ -17,8 +17,8 @@ use Rattle.moves.specs.Moves.{Movable, moved}
 use Rattle.moves.specs.HomeLaws.{Loose, length-zones}
 use Rattle.moves.specs.SpotLaws.{spot, spots-in, gone-before}
 use Rattle.moves.specs.LooseLaws.{fit-above, blocks-append}
-use Rattle.moves.specs.Room.{endAfter}
-use Rattle.moves.specs.RoomLaws.{take-here, drop-next, zone-here}
+use Rattle.moves.specs.Stored.{endAfter}
+use Rattle.moves.specs.AtLaws.{take-here, drop-next, zone-here}
 use Rattle.moves.specs.Slide.{rebased}
 use Rattle.moves.specs.HeldLaws.{spotBlock, SitsAt, held, Kept, kept-perm, held-perm, held-long, held-movable, held-moved, lined-lower, lined-append, row-lined, spots-lined, below-lined, kept-lined}
 

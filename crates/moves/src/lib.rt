@@ -1,6 +1,5 @@
 // Single moves in home's bytes, in place: blocks, entries of the dictionary and of the zone table.
 pub mod close;
-pub mod lift;
 pub mod slide;
 
 use home::classes::cells;

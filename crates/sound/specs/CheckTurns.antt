@@ -5,7 +5,7 @@ use mathlib.Core.List.{List}
 use Prim.Native.Nat.{ℕ, zero, suc, _+_, _*_, _-_, _/_, _%_, _≤_, _<_}
 use native.Mathlib.Omega.{arith}
 use native.Mathlib.Numerals.{add-one}
-use native.Mathlib.Nat.{mul-le-mul, div-add-mod', div-lt-iff-lt-mul}
+use native.Mathlib.Nat.{div-add-mod', div-lt-iff-lt-mul}
 use lib.Dec.{leb, ltb, eqb}
 use lib.ListN.{length, take, drop}
 use borrow.Author.Tests.{ltb-true, leb-true, eqb-true, lt-ltb, le-ltb, le-leb, lt-leb, eq-eqb, ne-eqb}
@@ -16,9 +16,10 @@ use Rattle.records.specs.Records.{rising, records, decode}
 use Rattle.records.specs.Edits.{decode-part}
 use Rattle.home.specs.Capacities.{capacity, under, cells, classOf}
 use Rattle.home.specs.CapacitiesLaws.{cells-is, cells-pos, cells-most, class-below, class-holds, class-over, class-within}
-use Rattle.home.specs.Bytes.{cellAt, countAt, firstAt, manyAt, tagAt, placeAt}
+use Rattle.home.specs.Bytes.{cellAt, countAt, firstAt, manyAt, tagAt, placeAt, endAt}
+use Rattle.home.specs.EndLaws.{end-none, end-some}
 use Rattle.home.specs.Sound.{pagesOf, sized}
-use Rattle.sound.specs.Checks.{blockFine, blocksFine, lies, zoneFine, endAt, zonesFine, manyIn, leads, tagsFine, checked}
+use Rattle.sound.specs.Checks.{blockFine, blocksFine, lies, zoneFine, zonesFine, manyIn, leads, tagsFine, checked}
 
 -- ---- parts
 
@@ -133,10 +134,6 @@ zone-lies area e s f m t =
     let b = both (ltb f (e + s)) (leb (f + m * s) area) (a .1) in
     (leb-true e f (a .0), ltb-true f (e + s) (b .0), leb-true (f + m * s) area (b .1))
 
--- a number of 2 bytes times a block's size
-pub zone-fits : (m s : ℕ) → m < 65536 → s ≤ 990 → m * s ≤ 64880640
-zone-fits m s a b = mul-le-mul {n₁ = m} {m₁ = s} {n₂ = 65536} {m₂ = 990} (omega arith) b
-
 module _ (h : List ℕ) (area c e f m s : ℕ) (ef : f ≡ firstAt h c) (em : m ≡ manyAt h c) (es : s ≡ cells c) where
   pub zone-empty : m ≡ 0 → eqb f 0 ≡ zoneFine h area c e
   unfolding zoneFine
@@ -157,14 +154,6 @@ module _ (h : List ℕ) (area c e f m s : ℕ) (ef : f ≡ firstAt h c) (em : m 
     pub zone-rest : blank (part h (cellAt e) (8 * (f - e))) ≡ true → blocksFine h c f m ≡ zoneFine h area c e
     unfolding zoneFine
     zone-rest g = rw (← ef, ← em, ← es, ne-eqb m 0 q, le-leb e f a, lt-ltb f (e + s) b, le-leb (f + m * s) area d, g)
-
-  pub end-empty : m ≡ 0 → e ≡ endAt h c e
-  unfolding endAt
-  end-empty q = rw (← em, eq-eqb m 0 q)
-
-  pub end-full : (m ≡ 0 → ⊥) → f + m * s ≡ endAt h c e
-  unfolding endAt
-  end-full q = rw (← ef, ← em, ← es, ne-eqb m 0 q)
 
 -- what a nonempty zone that is fine tells
 pub record Full (h : List ℕ) (area c : ℕ) : Type 0 where
@@ -187,8 +176,8 @@ zone-full h area c e q t =
 pub end-inside : (h : List ℕ) (area c e : ℕ) → e ≤ area → zoneFine h area c e ≡ true → endAt h c e ≤ area
 end-inside h area c e b t =
     by-eq (manyAt h c) 0
-    (λ q. omega (arith, end-empty h area c e (firstAt h c) (manyAt h c) (cells c) refl refl refl q))
-    (λ q. omega (arith, end-full h area c e (firstAt h c) (manyAt h c) (cells c) refl refl refl q, zone-full h area c e q t .inside))
+    (λ q. omega (arith, end-none h c e q))
+    (λ q. omega (arith, end-some h c e q, zone-full h area c e q t .inside))
 
 -- ---- all zones
 

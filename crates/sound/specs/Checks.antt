@@ -6,7 +6,7 @@ use lib.Dec.{leb, ltb, eqb}
 use Rattle.wire.specs.Bytes.{pick, part, get16, get32, blank}
 use Rattle.records.specs.Records.{rising, records}
 use Rattle.home.specs.Capacities.{capacity, cells, classOf}
-use Rattle.home.specs.Bytes.{cellAt, countAt, firstAt, manyAt, tagAt, placeAt}
+use Rattle.home.specs.Bytes.{cellAt, countAt, firstAt, manyAt, tagAt, placeAt, endAt}
 use Rattle.home.specs.Sound.{pagesOf, sized}
 
 -- a block at cell p in zone c: conditions 11, 13, 7, 12 and 8
@@ -32,10 +32,6 @@ zoneFine h area c e =
     (leb e (firstAt h c)
     && (ltb (firstAt h c) (e + cells c)
     && (leb (firstAt h c + manyAt h c * cells c) area && (blank (part h (cellAt e) (8 * (firstAt h c - e))) && blocksFine h c (firstAt h c) (manyAt h c)))))
-
--- where it ends
-unfoldable pub endAt : List ℕ → ℕ → ℕ → ℕ
-endAt h c e = pick (eqb (manyAt h c) 0) e (firstAt h c + manyAt h c * cells c)
 
 -- n zones from class c on, and what lies behind them
 unfoldable pub zonesFine : List ℕ → ℕ → ℕ → ℕ → ℕ → Bool

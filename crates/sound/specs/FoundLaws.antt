@@ -21,9 +21,10 @@ use Rattle.home.specs.CapacitiesLaws.{class-holds}
 use Rattle.home.specs.Zones.{Block, Zone, empty, from, zone, blocks}
 use Rattle.home.specs.Perm.{In, Pairs, single, after}
 use Rattle.home.specs.Layout.{Sits, Laid, Fit, Valid}
-use Rattle.home.specs.Bytes.{blockBytes, Spot, row, spots, area, entries, Entry, entryOf, dictionary, entriesBytes, padded, encode, cellAt, entryAt, countAt, blockAt, blocksAt, firstAt, manyAt, zoneAt, zonesFrom, decode, tagAt, placeAt, entriesAt}
+use Rattle.home.specs.Bytes.{blockBytes, Spot, row, spots, area, entries, Entry, entryOf, dictionary, entriesBytes, padded, encode, cellAt, entryAt, countAt, blockAt, blocksAt, firstAt, manyAt, zoneAt, zonesFrom, decode, tagAt, placeAt, entriesAt, endAt}
 use Rattle.home.specs.Sound.{pagesOf, sized, Sound}
-use Rattle.sound.specs.Checks.{blockFine, blocksFine, zoneFine, endAt, zonesFine, manyIn, leads, tagsFine, checked}
+use Rattle.sound.specs.CheckTurns.{end-inside}
+use Rattle.sound.specs.Checks.{blockFine, blocksFine, zoneFine, zonesFine, manyIn, leads, tagsFine, checked}
 use Rattle.home.specs.PermLaws.{all-left, all-right, map-in}
 use Rattle.home.specs.BytesLaws.{chop, get32-small, records-fit, bytes16-read, bytes32-read}
 use Rattle.home.specs.AreaLaws.{laid-fit, Clean}
@@ -182,22 +183,6 @@ module _ (h : List ℕ) (bytes : Bytes h) where
           many = rw qm (simp length-append (omega (arith, r' .many, l)));
         }
 
-    end-in : (c e : ℕ) → e ≤ n → zoneFine h n c e ≡ true → endAt h c e ≤ n
-    unfolding zoneFine endAt
-    end-in c e b t = by-eq (manyAt h c) 0
-        (λ q. rw q b)
-        (λ q. go (eqb (manyAt h c) 0) (λ r. q (eqb-true (manyAt h c) 0 r)) t)
-      where
-        go : (a : Bool) → (a ≡ true → ⊥)
-            → pick a (eqb (firstAt h c) 0) (leb e (firstAt h c) && (ltb (firstAt h c) (e + cells c) && (leb (firstAt h c + manyAt h c * cells c) n && (blank (part h (cellAt e) (8 * (firstAt h c - e))) && blocksFine h c (firstAt h c) (manyAt h c))))) ≡ true
-            → pick a e (firstAt h c + manyAt h c * cells c) ≤ n
-        go true x u = absurd (x refl)
-        go false x u =
-            let u1 = both (leb e (firstAt h c)) _ u in
-            let u2 = both (ltb (firstAt h c) (e + cells c)) _ (u1 .1) in
-            let u3 = both (leb (firstAt h c + manyAt h c * cells c) n) _ (u2 .1) in
-            leb-true (firstAt h c + manyAt h c * cells c) n (u3 .0)
-
     zones-found : (c e k : ℕ) → entryAt (c + k) ≤ length h → e ≤ n → zonesFine h n c e k ≡ true → Found n c e k (zonesFrom h c k)
     unfolding zonesFine zonesFrom zoneAt entries spots blocks manyIn
     zones-found c e zero b en t =
@@ -206,7 +191,7 @@ module _ (h : List ℕ) (bytes : Bytes h) where
     zones-found c e (suc k) b en t =
         let u = both (zoneFine h n c e) (zonesFine h n (suc c) (endAt h c e) k) t in
         zone-found c e k (firstAt h c) (manyAt h c) (zonesFrom h (suc c) k) (omega arith) refl refl en (u .0)
-        (zones-found (suc c) (endAt h c e) k (omega arith) (end-in c e en (u .0)) (u .1))
+        (zones-found (suc c) (endAt h c e) k (omega arith) (end-inside h n c e en (u .0)) (u .1))
 
 -- ---- the dictionary
 

@@ -20,9 +20,9 @@ use Rattle.home.specs.CapacitiesLaws.{cells-pos, cells-most}
 use Rattle.home.specs.Zones.{Block, Zone, empty, from, blocks}
 use Rattle.home.specs.Perm.{In, Pairs, after}
 use Rattle.home.specs.Layout.{Sits, Laid, Fit, Valid}
-use Rattle.home.specs.Bytes.{blockBytes, Spot, row, spots, area, entries, Entry, entryOf, dictionary, entriesBytes, padded, encode, cellAt, firstAt, manyAt, tagAt, placeAt}
+use Rattle.home.specs.Bytes.{blockBytes, Spot, row, spots, area, entries, Entry, entryOf, dictionary, entriesBytes, padded, encode, cellAt, firstAt, manyAt, tagAt, placeAt, endAt}
 use Rattle.home.specs.Sound.{pagesOf, sized, Sound}
-use Rattle.sound.specs.Checks.{blockFine, blocksFine, zoneFine, endAt, zonesFine, manyIn, leads, tagsFine, checked}
+use Rattle.sound.specs.Checks.{blockFine, blocksFine, zoneFine, zonesFine, manyIn, leads, tagsFine, checked}
 use Rattle.home.specs.PermLaws.{all-left, all-right, in-map, in-all, all-in, pin}
 use Rattle.home.specs.BytesLaws.{part-join}
 use Rattle.home.specs.AreaLaws.{laid-fit, fit-le, spots-sit, Clean}

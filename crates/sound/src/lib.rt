@@ -4,6 +4,7 @@ use home::classes::cells;
 use home::classes::class_in;
 use home::classes::class_table;
 use home::lookup::zone_count;
+use home::lookup::zone_end;
 use home::lookup::zone_first;
 ghost use mathlib.Core.Path.{_≡_};
 ghost use mathlib.Core.Bool.{true, _&&_};
@@ -15,7 +16,7 @@ ghost use Rattle.records.specs.Records.{rising as ordered, records};
 ghost use Rattle.home.specs.Capacities.{capacity as capacityOf, under as underOf, cells as cellsOf, short};
 ghost use Rattle.home.specs.Bytes.{cellAt, tagAt};
 ghost use Rattle.home.specs.Sound.{sized as sizedOf, sound as isSound};
-ghost use Rattle.sound.specs.Checks.{blockFine, blocksFine, lies as liesIn, zoneFine, endAt, zonesFine, manyIn, tagsFine};
+ghost use Rattle.sound.specs.Checks.{blockFine, blocksFine, lies as liesIn, zoneFine, zonesFine, manyIn, tagsFine};
 ghost use Rattle.sound.specs.CheckTurns.{leadsAt, entryFine};
 
 // Whether n bytes from an offset on are zero.
@@ -116,18 +117,6 @@ fn zone_fine(home: &[u8], area: usize, c: usize, e: usize) -> bool
         return false;
     }
     blocks_fine(home, c, first, many)
-}
-
-// Where it ends.
-fn zone_end(home: &[u8], c: usize, e: usize) -> usize
-    requires { ⌜ (c < 30) × (1664 ≤ length (now home)) ⌝ }
-    ensures { λ r. ⌜ r ≡ endAt (now (home .entry)) c e ⌝ }
-{
-    let many = zone_count(home, c);
-    if many == 0 {
-        return e;
-    }
-    zone_first(home, c) + many * cells(c)
 }
 
 // All zones and the cells behind them, with n blocks in all.

@@ -7,7 +7,7 @@ use Rattle.home.specs.Capacities.{cells, classOf}
 use Rattle.home.specs.Zones.{Zone, total, afresh, layAfresh, settle}
 use Rattle.home.specs.Bytes.{decode}
 use Rattle.home.specs.Sound.{pagesOf}
-use Rattle.moves.specs.Room.{endAfter, Stored}
+use Rattle.moves.specs.Stored.{endAfter, Stored}
 use Rattle.zones.specs.Place.{blockIn}
 
 -- the zones below class c without gaps from cell 0 on

@@ -23,12 +23,14 @@ use Rattle.home.specs.Sound.{pagesOf}
 use Rattle.moves.specs.HomeLaws.{Loose}
 use Rattle.moves.specs.StepLaws.{firstOf, manyOf}
 use Rattle.moves.specs.LooseLaws.{blocks-append}
-use Rattle.moves.specs.Room.{settled, endAfter, Stored}
+use Rattle.moves.specs.Stored.{settled, endAfter, Stored}
 use Rattle.moves.specs.CloseLaws.{decode-loose, pages-loose}
 use Rattle.moves.specs.Slide.{rebased, Slides, slid}
 use Rattle.zones.specs.SoundLaws.{sound-valid, valid-loose}
 use Rattle.zones.specs.Place.{blockIn, placedIn, Placeable, withBlock}
-use Rattle.zones.specs.PlaceLaws.{zone-is, sound-stored, Puts, puts-at, Fitting, fitting-under, fitting-sits, fitting-fits, fitting-bytes}
+use Rattle.moves.specs.LooseLaws.{zone-is}
+use Rattle.zones.specs.SoundLaws.{sound-stored}
+use Rattle.zones.specs.PlaceLaws.{Puts, puts-at, Fitting, fitting-under, fitting-sits, fitting-fits, fitting-bytes}
 use Rattle.zones.specs.Afresh.{lowerLaid, higherLaid, Layable, laidIn, settledIn}
 use Rattle.zones.specs.AfreshLaws.{Down, Up, Way, afresh-end, higher-loose, lower-next, lower-zone, zone-down, zone-up, lower-all, total-next, total-split, total-drop, zone-way, lay-some, lay-none}
 
@@ -268,7 +270,7 @@ module _ (h : List ℕ) (t : ℕ) (bs : List ℕ) (c k : ℕ) (l : Fitting h t b
   in-is = ap (λ (x : ℕ). layAfresh cells (8 * N) x b ys) (l .class)
 
   -- the sizes add up to more
-  pub laying-none : 8 * N < total cells 0 ys + k → (false ≡ isSome (laidIn h t bs)) × (h ≡ settled N h [] (laidIn h t bs))
+  pub laying-none : 8 * N < total cells 0 ys + k → (false ≡ isSome (laidIn h t bs)) × (h ≡ settled N h (laidIn h t bs))
   unfolding isSome settled
   laying-none o = rw (sym in-is ∙ lay-none (8 * N) c b ys there (rw size at o)) (refl, refl)
 
@@ -353,19 +355,19 @@ module _ (h : List ℕ) (t : ℕ) (bs : List ℕ) (c k : ℕ) (l : Fitting h t b
             (subst (λ (y : ℕ). Puts (encode N (way .lower ++ way .here ∷ way .higher)) (encode N (way .lower ++ added (endAfter 0 0 (way .lower)) b (way .here) ∷ way .higher)) c y t bs) (way .cell ∙ sym cell-is)
             (rw (way .class) at x)))
 
-        pub laying-done : (h₃ : List ℕ) → h₃ ≡ withBlock h₂ c p t bs → (true ≡ isSome (laidIn h t bs)) × (h₃ ≡ settled N h [] (laidIn h t bs))
+        pub laying-done : (h₃ : List ℕ) → h₃ ≡ withBlock h₂ c p t bs → (true ≡ isSome (laidIn h t bs)) × (h₃ ≡ settled N h (laidIn h t bs))
         unfolding isSome settled
         laying-done h₃ d = rw (sym in-is ∙ is-some) (refl, d ∙ laying-puts .bytes)
 
 -- ---- placed, or laid out afresh
 
-module _ (h : List ℕ) (t : ℕ) (bs : List ℕ) (r : Bool) (h' : List ℕ) (a : r ≡ isSome (placedIn h t bs)) (q : h' ≡ settled (pagesOf h) h [] (placedIn h t bs)) where
-  pub settled-placed : r ≡ true → (true ≡ isSome (settledIn h t bs)) × (h' ≡ settled (pagesOf h) h [] (settledIn h t bs))
+module _ (h : List ℕ) (t : ℕ) (bs : List ℕ) (r : Bool) (h' : List ℕ) (a : r ≡ isSome (placedIn h t bs)) (q : h' ≡ settled (pagesOf h) h (placedIn h t bs)) where
+  pub settled-placed : r ≡ true → (true ≡ isSome (settledIn h t bs)) × (h' ≡ settled (pagesOf h) h (settledIn h t bs))
   unfolding settle isSome orElse
   settled-placed e = by (placedIn h t bs) (sym e ∙ a) q
     where
-      by : (o : Option (List Zone)) → true ≡ isSome o → h' ≡ settled (pagesOf h) h [] o
-          → (true ≡ isSome (orElse o (laidIn h t bs))) × (h' ≡ settled (pagesOf h) h [] (orElse o (laidIn h t bs)))
+      by : (o : Option (List Zone)) → true ≡ isSome o → h' ≡ settled (pagesOf h) h o
+          → (true ≡ isSome (orElse o (laidIn h t bs))) × (h' ≡ settled (pagesOf h) h (orElse o (laidIn h t bs)))
       by none a q = never (sym a)
       by (some zs) a q = (a, q)
 
@@ -374,14 +376,14 @@ module _ (h : List ℕ) (t : ℕ) (bs : List ℕ) (r : Bool) (h' : List ℕ) (a 
   unfolding settle isSome orElse settled
   else-is e = by (placedIn h t bs) (sym e ∙ a) q
     where
-      by : (o : Option (List Zone)) → false ≡ isSome o → h' ≡ settled (pagesOf h) h [] o → (h' ≡ h) × (orElse o (laidIn h t bs) ≡ laidIn h t bs)
+      by : (o : Option (List Zone)) → false ≡ isSome o → h' ≡ settled (pagesOf h) h o → (h' ≡ h) × (orElse o (laidIn h t bs) ≡ laidIn h t bs)
       by none a q = (q, refl)
       by (some zs) a q = never a
 
   pub settled-able : r ≡ false → Placeable h t bs → Placeable h' t bs
   settled-able e p = subst (λ (x : List ℕ). Placeable x t bs) (sym (else-is e .0)) p
 
-  pub settled-laid : r ≡ false → (r' : Bool) (h'' : List ℕ) → r' ≡ isSome (laidIn h' t bs) → h'' ≡ settled (pagesOf h') h' [] (laidIn h' t bs)
-      → (r' ≡ isSome (settledIn h t bs)) × (h'' ≡ settled (pagesOf h) h [] (settledIn h t bs))
+  pub settled-laid : r ≡ false → (r' : Bool) (h'' : List ℕ) → r' ≡ isSome (laidIn h' t bs) → h'' ≡ settled (pagesOf h') h' (laidIn h' t bs)
+      → (r' ≡ isSome (settledIn h t bs)) × (h'' ≡ settled (pagesOf h) h (settledIn h t bs))
   settled-laid e r' h'' a' q' =
-      rw (else-is e .1) (subst (λ (x : List ℕ). (r' ≡ isSome (laidIn x t bs)) × (h'' ≡ settled (pagesOf x) x [] (laidIn x t bs))) (else-is e .0) (a', q'))
+      rw (else-is e .1) (subst (λ (x : List ℕ). (r' ≡ isSome (laidIn x t bs)) × (h'' ≡ settled (pagesOf x) x (laidIn x t bs))) (else-is e .0) (a', q'))

@@ -17,8 +17,8 @@ use Rattle.home.specs.AfreshLaws.{afresh-length, afresh-blocks, joined-total, f
 use Rattle.moves.specs.HomeLaws.{Loose}
 use Rattle.moves.specs.StepLaws.{firstOf, manyOf}
 use Rattle.moves.specs.LooseLaws.{fit-lower, fit-above, fit-joined, blocks-append}
-use Rattle.moves.specs.Room.{endAfter}
-use Rattle.moves.specs.RoomLaws.{at-zone, take-here, drop-here, take-next, drop-next, zone-here, end-next}
+use Rattle.moves.specs.Stored.{endAfter}
+use Rattle.moves.specs.AtLaws.{at-zone, take-here, drop-here, take-next, drop-next, zone-here, end-next}
 use Rattle.moves.specs.Slide.{rebased}
 use Rattle.moves.specs.SlideLaws.{rebased-at}
 use Rattle.zones.specs.PlaceLaws.{end-added}

@@ -12,7 +12,7 @@ use Rattle.records.specs.declared.Record.{Record}
 use Rattle.home.specs.Capacities.{cells}
 use Rattle.home.specs.Zones.{Block, Zone, empty, from, zone, blocks, hasTag, find, turned, removed, replaced, rewritten, endOf, close, takeOut}
 use Rattle.home.specs.FindLaws.{Lacks, by-tag, has-here, has-skip, has-append, lacks-has, find-here, find-later}
-use Rattle.moves.specs.Room.{endAfter}
+use Rattle.moves.specs.Stored.{endAfter}
 use Rattle.moves.specs.LooseLaws.{blocks-append, zone-blocks}
 use Rattle.zones.specs.Known.{lacking}
 

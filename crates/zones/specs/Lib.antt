@@ -5,6 +5,9 @@ pub mod BlockLaws
 pub mod OutLaws
 pub mod Place
 pub mod PlaceLaws
+pub mod FromLaws
+pub mod FromSound
+pub mod FromBlind
 pub mod Afresh
 pub mod AfreshLaws
 pub mod AfreshCode

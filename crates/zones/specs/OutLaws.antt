@@ -25,8 +25,10 @@ use Rattle.home.specs.Lookup.{Ordered, indexOf}
 use Rattle.moves.specs.Moves.{Movable, zoned, moved, unentered}
 use Rattle.moves.specs.SpotLaws.{spot}
 use Rattle.moves.specs.HomeLaws.{Loose, movable-without}
-use Rattle.moves.specs.Room.{endAfter, Stored}
-use Rattle.moves.specs.RoomLaws.{take-here, take-next, drop-next, zone-here, end-next}
+use Rattle.moves.specs.Stored.{endAfter, Stored}
+use Rattle.seats.specs.Seat.{endFrom}
+use Rattle.seats.specs.LayoutLaws.{stored-ends}
+use Rattle.moves.specs.AtLaws.{take-here, take-next, drop-next, zone-here, end-next}
 use Rattle.moves.specs.Close.{zoneOf, closedBytes, Open}
 use Rattle.moves.specs.CloseLaws.{decode-loose, pages-loose}
 use Rattle.zones.specs.Known.{firstIf, Known, lacking, outBytes, filled}
@@ -252,12 +254,21 @@ module _ (R : ℕ) (h : List ℕ) (zs : List Zone) (t c p : ℕ) (k : Known R h 
     pub out-stored : Stored h'
     out-stored = stored R h' left (k .pages) left-bytes left-loose
 
-    pub out-open : (e : ℕ) → e ≡ endAfter 0 0 (take (c + 1) (decode h')) → Open (pagesOf h') h' (decode h') (c + 1) e
-    out-open e g = record { pages = out-stored .pages; bytes = out-stored .bytes; loose = out-stored .loose; class = omega (arith, known-class); end = sym g }
+    -- the end carried along up to its class
+    module _ (e : ℕ) (ends : e ≡ endFrom (c + 1 - 0) h' 0 0) where
+      closes-at : e ≡ endAfter 0 0 (take (c + 1) (decode h'))
+      unfolding endAfter
+      closes-at =
+          let m : c + 1 - 0 ≡ c + 1 = omega arith in
+          let n : c + 1 + 0 ≡ c + 1 = omega arith in
+          ends ∙ ap (λ (i : ℕ). endFrom i h' 0 0) m ∙ stored-ends h' out-stored (c + 1) 0 (omega (arith, known-class)) ∙ ap (λ (i : ℕ). endAfter 0 0 (take i (decode h'))) n
 
-    pub out-taken : (e : ℕ) → e ≡ endAfter 0 0 (take (c + 1) (decode h')) → closedBytes (pagesOf h') (decode h') (c + 1) e ≡ encode R (takeOut cells t 0 0 zs)
-    out-taken e g =
-        let z : decode h' ≡ left = ap decode left-bytes ∙ decode-loose R (k .pages) left left-loose in
-        ap₂ (λ (n : ℕ) (l : List Zone). closedBytes n l (c + 1) e) (ap pagesOf left-bytes ∙ pages-loose R (k .pages) left left-loose) z
-        ∙ out-closed R (k .pages) zs (k .lower) (k .first) (k .before) (k .block) (k .behind) (k .higher) h t c p (k .is) (k .bytes) (k .class) (k .cell) (k .tag) (k .none-before) (k .loose)
-        e (k .none-lower) (g ∙ ap (λ (l : List Zone). endAfter 0 0 (take (c + 1) l)) z)
+      pub out-open : Open (pagesOf h') h' (decode h') (c + 1) e
+      out-open = record { pages = out-stored .pages; bytes = out-stored .bytes; loose = out-stored .loose; class = omega (arith, known-class); end = sym closes-at }
+
+      pub out-taken : closedBytes (pagesOf h') (decode h') (c + 1) e ≡ encode R (takeOut cells t 0 0 zs)
+      out-taken =
+          let z : decode h' ≡ left = ap decode left-bytes ∙ decode-loose R (k .pages) left left-loose in
+          ap₂ (λ (n : ℕ) (l : List Zone). closedBytes n l (c + 1) e) (ap pagesOf left-bytes ∙ pages-loose R (k .pages) left left-loose) z
+          ∙ out-closed R (k .pages) zs (k .lower) (k .first) (k .before) (k .block) (k .behind) (k .higher) h t c p (k .is) (k .bytes) (k .class) (k .cell) (k .tag) (k .none-before) (k .loose)
+          e (k .none-lower) (closes-at ∙ ap (λ (l : List Zone). endAfter 0 0 (take (c + 1) l)) z)

@@ -1,28 +1,24 @@
 -- A block placed: what it needs, and the bytes afterwards.
 use mathlib.Core.Path.{_≡_}
 use mathlib.Core.Bool.{true, false}
-use mathlib.Core.Option.{Option}
+use mathlib.Core.Option.{Option, Option·map}
 use mathlib.Core.List.{List, _∷_, _++_}
 use Prim.Native.Nat.{ℕ, _+_, _*_, _-_, _/_, _≤_, _<_}
-use lib.Dec.{eqb}
 use lib.ListN.{length, replicate}
-use Rattle.wire.specs.Bytes.{pick, over, get16, bytes16, bytes32}
+use Rattle.wire.specs.Bytes.{over, get16, bytes16, bytes32}
 use Rattle.records.specs.Records.{rising, decode as recordsIn}
 use Rattle.home.specs.Capacities.{cells, classOf}
 use Rattle.home.specs.Zones.{Block, Zone, blocks, hasTag, place}
-use Rattle.home.specs.Bytes.{decode, cellAt, firstAt, manyAt}
+use Rattle.home.specs.Bytes.{decode, cellAt, firstAt, manyAt, endAt}
 use Rattle.home.specs.Sound.{pagesOf, sound}
 use Rattle.home.specs.Lookup.{Ordered}
 use Rattle.moves.specs.Moves.{zoned, entered}
+use Rattle.seats.specs.Seat.{firstWith, endFrom, raised, seated, Stacked}
 
 -- a whole block of class c: tag t and the bytes bs of its list
 unfoldable pub blockOf : ℕ → ℕ → List ℕ → List ℕ
 unfolding bytes16 bytes32 cells
 blockOf c t bs = bytes32 t ++ (bytes16 (length bs / 8) ++ (0 ∷ 0 ∷ (bs ++ replicate (8 * cells c - 8 - length bs) 0)))
-
--- the first cell of a zone of n blocks from f on, once a block is put in at p
-unfoldable pub firstWith : ℕ → ℕ → ℕ → ℕ
-firstWith n f p = pick (eqb n 0) p f
 
 -- room at cell p for a block of class c with tag t and the bytes bs of its list
 pub record RoomAt (h : List ℕ) (c p t : ℕ) (bs : List ℕ) : Type 0 where
@@ -36,6 +32,26 @@ pub record RoomAt (h : List ℕ) (c p t : ℕ) (bs : List ℕ) : Type 0 where
 -- home with that block, its tag's entry, and its zone's
 unfoldable pub withBlock : List ℕ → ℕ → ℕ → ℕ → List ℕ → List ℕ
 withBlock h c p t bs = zoned (entered (over h (cellAt p) (blockOf c t bs)) t p) c (firstWith (manyAt h c) (firstAt h c) p) (manyAt h c + 1)
+
+-- "placing from a class up, given that end": zones c and up of home's bytes, where the lower ones end at e, with a block of that class or a higher one
+unfoldable pub placedFrom : List ℕ → ℕ → ℕ → ℕ → List ℕ → Option (List ℕ)
+unfolding endFrom endAt raised withBlock
+placedFrom h c e t bs =
+    let k : ℕ = classOf (length bs / 8) in
+    let end : ℕ = endFrom (k - c) h c e in
+    Option·map (λ (x : List ℕ). withBlock x k (endAt h k end) t bs) (seated h k (firstAt h k) (manyAt h k) end)
+
+-- bytes no longer than a home of 1,024 pages, of which only the dictionary, zones c and up, and e are spoken of; and a list of class c or above
+pub record From (h : List ℕ) (c e : ℕ) (bs : List ℕ) : Type 0 where
+  pub long : length h ≤ 67200
+  pub ordered : Ordered h
+  pub few : get16 h 0 < 256
+  pub above : Stacked (30 - c) h c e
+  pub class : c ≤ classOf (length bs / 8)
+  pub whole : length bs ≡ 8 * (length bs / 8)
+  pub most : length bs / 8 ≤ 989
+
+-- ---- in a sound home
 
 -- the block of tag t with the records in bs
 abbrev pub blockIn : ℕ → List ℕ → Block

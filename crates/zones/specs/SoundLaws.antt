@@ -1,19 +1,20 @@
 -- A sound home is ready for the moves.
-use mathlib.Core.Path.{_≡_, sym}
+use mathlib.Core.Path.{_≡_, sym, subst}
 use mathlib.Core.Bool.{true}
 use mathlib.Core.List.{List}
-use Prim.Native.Nat.{ℕ, _+_, _*_, _≤_}
+use Prim.Native.Nat.{ℕ, _*_, _≤_}
 use native.Mathlib.Omega.{arith}
-use lib.ListN.{take}
-use Rattle.home.specs.Capacities.{cells}
-use Rattle.home.specs.Zones.{Zone}
+use lib.ListN.{length}
+use Rattle.wire.specs.Bytes.{get16}
+use Rattle.home.specs.Zones.{Zone, blocks}
 use Rattle.home.specs.Layout.{Valid}
 use Rattle.home.specs.Bytes.{decode}
 use Rattle.home.specs.Sound.{sound, Sound, pagesOf}
 use Rattle.home.specs.AreaLaws.{laid-fit}
 use Rattle.home.specs.SoundLaws.{t-sound, sound-pages, sound-zones, encode-decode}
+use Rattle.home.specs.EntriesLaws.{tag-count}
 use Rattle.moves.specs.HomeLaws.{Loose}
-use Rattle.moves.specs.Room.{endAfter, Ready}
+use Rattle.moves.specs.Stored.{Stored}
 
 pub valid-loose : (R : ℕ) (zs : List Zone) → Valid (8 * R) zs → Loose R zs
 valid-loose R zs v = record { classes = v .classes; fit = laid-fit (8 * R) 0 0 zs (v .laid); distinct = v .distinct; few = v .few }
@@ -34,6 +35,8 @@ module _ (h : List ℕ) (t : sound h ≡ true) where
   pub sound-loose : Loose (pagesOf h) (decode h)
   sound-loose = valid-loose (pagesOf h) (decode h) sound-valid
 
-  -- a block of class c or a lower one is put in below zone c
-  pub sound-ready : (c e : ℕ) → c ≤ 30 → endAfter 0 0 (take c (decode h)) ≤ e → e ≤ endAfter 0 0 (take c (decode h)) + cells c → Ready (pagesOf h) h (decode h) c e
-  sound-ready c e g lo hi = record { pages = sound-small; bytes = sym (encode-decode h t); loose = sound-loose; class = g; low = lo; high = hi }
+  pub sound-stored : Stored h
+  sound-stored = record { pages = sound-small; bytes = sym (encode-decode h t); loose = sound-loose }
+
+  pub sound-tags : get16 h 0 ≡ length (blocks (decode h))
+  sound-tags = subst (λ (x : List ℕ). get16 x 0 ≡ length (blocks (decode h))) (encode-decode h t) (tag-count (pagesOf h) (decode h) sound-valid sound-small)

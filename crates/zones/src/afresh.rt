@@ -7,7 +7,6 @@ use home::lookup::zone_count;
 use home::lookup::zone_first;
 use moves::slide::slide;
 ghost use mathlib.Core.Path.{_≡_};
-ghost use mathlib.Core.List.{[]};
 ghost use Prim.Native.Nat.{_≤_};
 ghost use lib.ListN.{take};
 ghost use Rattle.home.specs.Capacities.{cells as sizeOf};
@@ -15,7 +14,7 @@ ghost use Rattle.home.specs.Zones.{total as totalOf};
 ghost use Rattle.home.specs.Cases.{isSome};
 ghost use Rattle.home.specs.Bytes.{encode, decode};
 ghost use Rattle.home.specs.Sound.{pagesOf};
-ghost use Rattle.moves.specs.Room.{Stored, settled};
+ghost use Rattle.moves.specs.Stored.{Stored, settled};
 ghost use Rattle.zones.specs.Place.{Placeable};
 ghost use Rattle.zones.specs.Afresh.{lowerLaid, higherLaid, Layable, laidIn, settledIn};
 
@@ -73,7 +72,7 @@ fn lay_from(home: &mut [u8], c: usize, e: usize)
 // more than the area.
 fn lay_afresh(home: &mut [u8], tag: u32, list: &[u8]) -> bool
     requires { ⌜ Placeable (now home) tag (now list) ⌝ }
-    ensures { λ r. ⌜ (r ≡ isSome (laidIn (now (home .entry)) tag (now (list .entry)))) × (now (home .exit) ≡ settled (pagesOf (now (home .entry))) (now (home .entry)) [] (laidIn (now (home .entry)) tag (now (list .entry)))) ⌝ }
+    ensures { λ r. ⌜ (r ≡ isSome (laidIn (now (home .entry)) tag (now (list .entry)))) × (now (home .exit) ≡ settled (pagesOf (now (home .entry))) (now (home .entry)) (laidIn (now (home .entry)) tag (now (list .entry)))) ⌝ }
 {
     let c = class_of(list.len() / 8);
     let k = cells(c);
@@ -91,7 +90,7 @@ fn lay_afresh(home: &mut [u8], tag: u32, list: &[u8]) -> bool
 // add up to more than the area.
 pub fn settle(home: &mut [u8], tag: u32, list: &[u8]) -> bool
     requires { ⌜ Placeable (now home) tag (now list) ⌝ }
-    ensures { λ r. ⌜ (r ≡ isSome (settledIn (now (home .entry)) tag (now (list .entry)))) × (now (home .exit) ≡ settled (pagesOf (now (home .entry))) (now (home .entry)) [] (settledIn (now (home .entry)) tag (now (list .entry)))) ⌝ }
+    ensures { λ r. ⌜ (r ≡ isSome (settledIn (now (home .entry)) tag (now (list .entry)))) × (now (home .exit) ≡ settled (pagesOf (now (home .entry))) (now (home .entry)) (settledIn (now (home .entry)) tag (now (list .entry)))) ⌝ }
 {
     if place(home, tag, list) {
         return true;

@@ -1,38 +1,25 @@
-// A block placed.
+// A block placed, from a class up given the end of the zones below it.
 use home::classes::cells;
 use home::classes::class_of;
 use home::lookup::zone_count;
 use home::lookup::zone_first;
 use moves::insert_entry;
-use moves::lift::make_room;
 use moves::set_zone;
+use seats::Room;
+use seats::end_from;
+use seats::first_with;
+use seats::seat;
 ghost use mathlib.Core.Path.{_≡_};
-ghost use mathlib.Core.List.{[]};
+ghost use mathlib.Core.Option.{Option·getD};
 ghost use Prim.Native.Nat.{_+_, _*_, _≤_, _<_};
-ghost use lib.ListN.{length, take};
+ghost use lib.ListN.{length};
 ghost use Rattle.wire.specs.Bytes.{over};
 ghost use Rattle.home.specs.Capacities.{cells as sizeOf};
-ghost use Rattle.home.specs.Bytes.{cellAt, decode};
+ghost use Rattle.home.specs.Bytes.{cellAt};
 ghost use Rattle.home.specs.Sound.{pagesOf};
-ghost use Rattle.moves.specs.Room.{settled, endAfter, Stored};
+ghost use Rattle.moves.specs.Stored.{settled};
 ghost use Rattle.home.specs.Cases.{isSome};
-ghost use Rattle.zones.specs.Place.{blockOf, firstWith, RoomAt, withBlock, placedIn, Placeable};
-
-// Where the zones below class c end: the end of the nearest nonempty one, or cell 0.
-pub fn end_below(home: &[u8], c: usize) -> usize
-    requires { ⌜ Stored (now home) × (c ≤ 30) ⌝ }
-    ensures { λ r. ⌜ (r ≡ endAfter 0 0 (take c (decode (now (home .entry))))) × (r ≤ 8192) ⌝ }
-{
-    let mut d = c;
-    while 0 < d {
-        d -= 1;
-        let n = zone_count(home, d);
-        if 0 < n {
-            return zone_first(home, d) + n * cells(d);
-        }
-    }
-    0
-}
+ghost use Rattle.zones.specs.Place.{blockOf, RoomAt, withBlock, From, placedFrom, placedIn, Placeable};
 
 // Writes a whole block of class c at cell p: its header, its list, and zeros to its end.
 fn write_block(home: &mut [u8], c: usize, p: usize, tag: u32, list: &[u8])
@@ -49,13 +36,6 @@ fn write_block(home: &mut [u8], c: usize, p: usize, tag: u32, list: &[u8])
     wire::fill(home, at + 8 + n, free, 0);
 }
 
-// The first cell of a zone of n blocks from f on, once a block is put in at p.
-fn first_with(n: usize, f: usize, p: usize) -> usize
-    ensures { λ r. ⌜ r ≡ firstWith n f p ⌝ }
-{
-    if n == 0 { p } else { f }
-}
-
 // Writes a block of class c at cell p, where there is room for it, its tag's entry, and its zone's.
 pub fn put_block(home: &mut [u8], c: usize, p: usize, tag: u32, list: &[u8])
     requires { ⌜ RoomAt (now home) c p tag (now list) ⌝ }
@@ -69,17 +49,28 @@ pub fn put_block(home: &mut [u8], c: usize, p: usize, tag: u32, list: &[u8])
     set_zone(home, c, first, n + 1);
 }
 
+// Places a block with this list, of class c or above, where the zones below class c end at cell `end`. Of the zone table only the entries
+// from class c up are read and written. Nothing is stored where there is no room.
+pub fn place_from(home: &mut [u8], c: usize, end: usize, tag: u32, list: &[u8]) -> bool
+    requires { ⌜ From (now home) c end (now list) ⌝ }
+    ensures { λ r. ⌜ r ≡ isSome (placedFrom (now (home .entry)) c end tag (now (list .entry))) ⌝ }
+    ensures { λ _. ⌜ now (home .exit) ≡ Option·getD (placedFrom (now (home .entry)) c end tag (now (list .entry))) (now (home .entry)) ⌝ }
+{
+    let k = class_of(list.len() / 8);
+    let e = end_from(home, c, end, k);
+    let f = zone_first(home, k);
+    let n = zone_count(home, k);
+    let Room::At(p) = seat(home, k, f, n, e) else {
+        return false;
+    };
+    put_block(home, k, p, tag, list);
+    true
+}
+
 // Places a block with this list for a tag that has none. Nothing is stored where there is no room.
 pub fn place(home: &mut [u8], tag: u32, list: &[u8]) -> bool
     requires { ⌜ Placeable (now home) tag (now list) ⌝ }
-    ensures { λ r. ⌜ (r ≡ isSome (placedIn (now (home .entry)) tag (now (list .entry)))) × (now (home .exit) ≡ settled (pagesOf (now (home .entry))) (now (home .entry)) [] (placedIn (now (home .entry)) tag (now (list .entry)))) ⌝ }
+    ensures { λ r. ⌜ (r ≡ isSome (placedIn (now (home .entry)) tag (now (list .entry)))) × (now (home .exit) ≡ settled (pagesOf (now (home .entry))) (now (home .entry)) (placedIn (now (home .entry)) tag (now (list .entry)))) ⌝ }
 {
-    let c = class_of(list.len() / 8);
-    let p = end_below(home, c + 1);
-    let area = (home.len() - 1664) / 8;
-    if !make_room(home, c + 1, p + cells(c), area) {
-        return false;
-    }
-    put_block(home, c, p, tag, list);
-    true
+    place_from(home, 0, 0, tag, list)
 }

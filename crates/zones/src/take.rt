@@ -1,5 +1,4 @@
 // A block taken out.
-use crate::place::end_below;
 use home::classes::cells;
 use home::lookup::zone_count;
 use home::lookup::zone_first;
@@ -7,6 +6,7 @@ use moves::close::close_up;
 use moves::move_block;
 use moves::remove_entry;
 use moves::set_zone;
+use seats::end_from;
 ghost use mathlib.Core.Path.{_≡_};
 ghost use Prim.Native.Nat.{_+_, _*_, _≤_, _<_};
 ghost use lib.ListN.{length};
@@ -55,6 +55,6 @@ pub fn take_out(home: &mut [u8], tag: u32, c: usize, p: usize)
     ensures { λ _. ⌜ now (home .exit) ≡ encode (pagesOf (now (home .entry))) (takeOut sizeOf tag 0 0 (decode (now (home .entry)))) ⌝ }
 {
     remove_block(home, tag, c, p);
-    let e = end_below(home, c + 1);
+    let e = end_from(home, 0, 0, c + 1);
     close_up(home, c + 1, e);
 }

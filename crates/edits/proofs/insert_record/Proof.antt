@@ -10,7 +10,7 @@ use Rattle.home.specs.Cases.{isSome}
 use Rattle.home.specs.Layout.{change}
 use Rattle.home.specs.Bytes.{decode}
 use Rattle.home.specs.Sound.{pagesOf, listOf}
-use Rattle.zones.specs.PlaceLaws.{sound-stored}
+use Rattle.zones.specs.SoundLaws.{sound-stored}
 use Rattle.lists.specs.ListedLaws.{listed-most}
 use Rattle.lists.specs.RecordLaws.{placed-under, in-inside, in-here}
 use Rattle.edits.specs.Edits.{fitsAfter}

@@ -3,7 +3,7 @@ use Prim.Native.Nat.{_-_, _*_, _/_}
 use native.Mathlib.Omega.{arith}
 use lib.ListN.{length}
 use Rattle.home.specs.Sound.{pagesOf}
-use Rattle.zones.specs.PlaceLaws.{stored-long}
+use Rattle.moves.specs.LooseLaws.{stored-long}
 use borrow.Author.Needs.{needs}
 use Rattle.edits.proofs.room_after.Statement.{statement}
 use Rattle.edits.proofs.room_after.Tie as tie

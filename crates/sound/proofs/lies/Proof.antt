@@ -1,5 +1,5 @@
 use native.Mathlib.Omega.{arith}
-use Rattle.sound.specs.CheckTurns.{zone-fits}
+use Rattle.home.specs.EndLaws.{zone-fits}
 use borrow.Author.Needs.{needs}
 use Rattle.sound.proofs.lies.Statement.{statement}
 use Rattle.sound.proofs.lies.Tie as tie

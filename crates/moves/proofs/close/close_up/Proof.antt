@@ -2,7 +2,7 @@ use native.Mathlib.Omega.{arith}
 use mathlib.Core.Path.{_≡_, refl}
 use Prim.Native.Nat.{_-_}
 use lib.ListN.{length}
-use Rattle.moves.specs.CodeLaws.{Closing, close-next, close-done}
+use Rattle.moves.specs.CloseCode.{Closing, close-next, close-done}
 use borrow.Author.Needs.{needs}
 use Rattle.moves.proofs.close.close_up.Statement.{statement}
 use Rattle.moves.proofs.close.close_up.Tie as tie

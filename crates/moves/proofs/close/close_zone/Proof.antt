@@ -4,7 +4,7 @@ use Prim.Native.Nat.{_+_, _*_, _≤_, _<_}
 use lib.ListN.{length}
 use Rattle.home.specs.CapacitiesLaws.{cells-pos}
 use Rattle.moves.specs.CloseLaws.{zone-none}
-use Rattle.moves.specs.CodeLaws.{end-small, Lowering, open-small, open-long, lower-requires, lower-next, lower-done}
+use Rattle.moves.specs.CloseCode.{end-small, Lowering, open-small, open-long, lower-requires, lower-next, lower-done}
 use borrow.Author.Needs.{needs}
 use Rattle.moves.proofs.close.close_zone.Statement.{statement}
 use Rattle.moves.proofs.close.close_zone.Tie as tie

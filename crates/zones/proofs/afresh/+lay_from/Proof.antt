@@ -2,7 +2,7 @@ use Prim.Native.Nat.{ℕ, _<_, _-_}
 use native.Mathlib.Omega.{arith}
 use borrow.Fn.Kinds.{In}
 use borrow.Fn.PlainCycle.{Measures, is, falls, and}
-use Rattle.zones.specs.PlaceLaws.{stored-long}
+use Rattle.moves.specs.LooseLaws.{stored-long}
 use Rattle.zones.specs.AfreshCode.{from-end, from-small, down-slides, down-next, down-done, up-next, up-slides, up-done}
 use borrow.Author.Needs.{needs}
 use Rattle.zones.proofs.afresh.lay_from.Reads as lay-from

@@ -4,7 +4,9 @@ use Rattle.home.specs.Capacities.{cells}
 use Rattle.home.specs.Zones.{total}
 use Rattle.home.specs.Bytes.{decode}
 use Rattle.home.specs.Sound.{pagesOf}
-use Rattle.zones.specs.PlaceLaws.{stored-long, sound-stored, Fitting, fitting-under}
+use Rattle.moves.specs.LooseLaws.{stored-long}
+use Rattle.zones.specs.SoundLaws.{sound-stored}
+use Rattle.zones.specs.PlaceLaws.{Fitting, fitting-under}
 use Rattle.zones.specs.AfreshCode.{laying-none, laying-layable, laying-puts, laying-done}
 use borrow.Author.Needs.{needs}
 use Rattle.zones.proofs.afresh.lay_afresh.Statement.{statement}

@@ -2,7 +2,7 @@ use mathlib.Core.Path.{_≡_, refl}
 use Prim.Native.Nat.{_-_, _≤_}
 use native.Mathlib.Omega.{arith}
 use lib.ListN.{length}
-use Rattle.zones.specs.PlaceLaws.{stored-long}
+use Rattle.moves.specs.LooseLaws.{stored-long}
 use Rattle.zones.specs.AfreshCode.{Lowered, lower-start, lower-slides, lower-small, lower-again, lower-done}
 use borrow.Author.Needs.{needs}
 use Rattle.zones.proofs.afresh.lay_below.Statement.{statement}

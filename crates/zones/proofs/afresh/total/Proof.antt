@@ -2,7 +2,7 @@ use native.Mathlib.Omega.{arith}
 use Prim.Native.Nat.{_-_, _≤_}
 use lib.ListN.{length}
 use Rattle.zones.specs.AfreshCode.{Summing, sum-start, sum-small, sum-next, sum-done}
-use Rattle.zones.specs.PlaceLaws.{stored-long}
+use Rattle.moves.specs.LooseLaws.{stored-long}
 use borrow.Author.Needs.{needs}
 use Rattle.zones.proofs.afresh.total.Statement.{statement}
 use Rattle.zones.proofs.afresh.total.Tie as tie

@@ -2,7 +2,7 @@ use native.Mathlib.Omega.{arith}
 use mathlib.Core.Path.{_≡_, ap}
 use Prim.Native.Nat.{ℕ, _-_}
 use lib.ListN.{length}
-use Rattle.moves.specs.CodeLaws.{end-small}
+use Rattle.moves.specs.CloseCode.{end-small}
 use Rattle.zones.specs.OutLaws.{known-class, known-long, known-zone, known-out}
 use borrow.Author.Needs.{needs}
 use Rattle.zones.proofs.take.remove_block.Statement.{statement}

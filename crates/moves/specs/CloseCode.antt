@@ -1,105 +1,25 @@
--- What the code that makes room knows at its places.
+-- What the code that closes gaps knows at its places.
 use mathlib.Core.Path.{_≡_, sym, ap, _∙_, subst, ap₂}
-use mathlib.Core.Bool.{Bool, true, false}
 use mathlib.Core.List.{List}
 use Prim.Native.Nat.{ℕ, suc, _+_, _*_, _≤_, _<_, _-_}
 use native.Mathlib.Omega.{arith}
-use native.Mathlib.Nat.{mul-le-mul-left}
 use native.Mathlib.Numerals.{add-one}
-use lib.Dec.{leb, ltb}
 use lib.ListN.{length, take, drop, take-append-drop}
 use Rattle.home.specs.Capacities.{cells}
 use Rattle.home.specs.Bytes.{cellAt, firstAt, manyAt, decode}
 use Rattle.home.specs.Sound.{pagesOf}
-use Rattle.home.specs.Cases.{by-pick}
 use Rattle.moves.specs.Moves.{Movable, zoned, moved}
-use Rattle.moves.specs.Room.{Ready, liftTo, liftFirst, hasRoom, roomed, endAfter}
-use Rattle.moves.specs.RoomLaws.{room-end, Same, zone-passed, zone-stays, Lifts, Moves, zone-lifts}
+use Rattle.moves.specs.Stored.{endAfter}
 use Rattle.home.specs.Zones.{Zone}
+use Rattle.home.specs.EndLaws.{zone-fits}
 use Rattle.home.specs.Layout.{Fit}
 use Rattle.home.specs.AreaLaws.{fit-le}
 use Rattle.moves.specs.LooseLaws.{zone-at, length-loose, fit-above}
 use Rattle.moves.specs.Close.{Open, lowBytes, lowEnd, closedBytes}
 use Rattle.moves.specs.CloseLaws.{Turned, zone-turned, zone-low, decode-loose, pages-loose, Closed, zone-closed, all-closed}
 
--- ---- numbers
-
 pub end-small : (f n k : ℕ) → f < 65536 → n < 65536 → k ≤ 990 → f + n * k < 4294967296
-end-small f n k a b c = let d : n * k ≤ n * 990 = mul-le-mul-left n c in omega arith
-
-pub to-small : (e f n k : ℕ) → e ≤ 9182 → f + n * k < 4294967296 → liftTo e f n k < 4294967296
-unfolding liftTo
-to-small e f n k a b = by-pick (λ (x : ℕ). x < 4294967296) (ltb 1 n) (λ t. b) (λ t. omega arith)
-
--- ---- no zone is in the way
-
-module _ (h : List ℕ) (c e : ℕ) (r : Ready (pagesOf h) h (decode h) c e) where
-  pub code-end : (area : ℕ) → c ≡ 30 → area ≡ 8 * pagesOf h → (leb e area ≡ hasRoom h c e) × (h ≡ roomed h c e)
-  code-end area q a =
-      let p = room-end (pagesOf h) h (decode h) e (subst (λ (k : ℕ). Ready (pagesOf h) h (decode h) k e) q r) in
-      rw (q, a) (sym (p .0), sym (p .1))
-
-  pub code-passed : (n : ℕ) → c < 30 → n ≡ manyAt h c → n ≡ 0 → Ready (pagesOf h) h (decode h) (c + 1) e
-  code-passed n g m z = rw add-one (zone-passed (pagesOf h) h (decode h) c e r g (sym m ∙ z) .ready)
-
-  pub code-same : (n : ℕ) (b : Bool) (h' : List ℕ) → c < 30 → n ≡ manyAt h c → n ≡ 0 → b ≡ hasRoom h (c + 1) e → h' ≡ roomed h (c + 1) e → (b ≡ hasRoom h c e) × (h' ≡ roomed h c e)
-  code-same n b h' g m z p q =
-      let s : Same (pagesOf h) h (decode h) c e = zone-passed (pagesOf h) h (decode h) c e r g (sym m ∙ z) in
-      (p ∙ ap (λ (d : ℕ). hasRoom h d e) (add-one c) ∙ sym (s .answer), q ∙ ap (λ (d : ℕ). roomed h d e) (add-one c) ∙ sym (s .bytes))
-
-  pub code-stays : (f n : ℕ) → c < 30 → n ≡ manyAt h c → (n ≡ 0 → ⊥) → f ≡ firstAt h c → e ≤ f → (true ≡ hasRoom h c e) × (h ≡ roomed h c e)
-  code-stays f n g m z q b =
-      let p = zone-stays (pagesOf h) h (decode h) c e r g (λ x. z (m ∙ x)) (subst (λ (k : ℕ). e ≤ k) q b) in
-      (sym (p .0), sym (p .1))
-
--- ---- zone c's first block is lifted off
-
-pub record Lifting (h : List ℕ) (c e f n k : ℕ) : Type 0 where
-  pub ready : Ready (pagesOf h) h (decode h) c e
-  pub under : c < 30
-  pub first : f ≡ firstAt h c
-  pub many : n ≡ manyAt h c
-  pub some : n ≡ 0 → ⊥
-  pub over : f < e
-  pub size : k ≡ cells c
-
-module _ (h : List ℕ) (c e f n k : ℕ) (l : Lifting h c e f n k) where
-  lifts : Lifts (pagesOf h) h (decode h) c e f n
-  lifts = subst (λ (x : ℕ). Lifts (pagesOf h) h (decode h) c e x n) (sym (l .first))
-      (subst (λ (x : ℕ). Lifts (pagesOf h) h (decode h) c e (firstAt h c) x) (sym (l .many))
-      (zone-lifts (pagesOf h) h (decode h) c e (l .ready) (l .under) (λ q. l .some (l .many ∙ q)) (subst (λ (x : ℕ). x < e) (l .first) (l .over))))
-
-  goal : (to : ℕ) → to ≡ liftTo e f n k → to + k ≡ liftTo e f n (cells c) + cells c
-  goal to q = rw (q, l .size)
-
-  pub code-ready : (to : ℕ) → to ≡ liftTo e f n k → Ready (pagesOf h) h (decode h) (c + 1) (to + k)
-  code-ready to q = rw (add-one, goal to q) (lifts .ready)
-
-  pub code-none : (to : ℕ) (b : Bool) (h' : List ℕ) → to ≡ liftTo e f n k → b ≡ false → b ≡ hasRoom h (c + 1) (to + k) → h' ≡ roomed h (c + 1) (to + k)
-      → (false ≡ hasRoom h c e) × (h' ≡ roomed h c e)
-  code-none to b h' q t p p' =
-      let a : b ≡ hasRoom h (suc c) (liftTo e f n (cells c) + cells c) = rw (add-one, goal to q) at p in
-      let a' : h' ≡ roomed h (suc c) (liftTo e f n (cells c) + cells c) = rw (add-one, goal to q) at p' in
-      (sym t ∙ a ∙ sym (lifts .answer), a' ∙ lifts .fails (sym a ∙ t))
-
-  pub code-moves : (to : ℕ) (b : Bool) (h' : List ℕ) → to ≡ liftTo e f n k → b ≡ true → b ≡ hasRoom h (c + 1) (to + k) → h' ≡ roomed h (c + 1) (to + k)
-      → (true ≡ hasRoom h c e) × Moves (pagesOf h) h' (roomed h c e) c e f n
-  code-moves to b h' q t p p' =
-      let a : b ≡ hasRoom h (suc c) (liftTo e f n (cells c) + cells c) = rw (add-one, goal to q) at p in
-      let a' : h' ≡ roomed h (suc c) (liftTo e f n (cells c) + cells c) = rw (add-one, goal to q) at p' in
-      (sym t ∙ a ∙ sym (lifts .answer), subst (λ (x : List ℕ). Moves (pagesOf h) x (roomed h c e) c e f n) (sym a') (lifts .moves (sym a ∙ t)))
-
-  pub code-requires : (to : ℕ) (h' : List ℕ) → to ≡ liftTo e f n k → Moves (pagesOf h) h' (roomed h c e) c e f n
-      → ((c < 30) × (cellAt f + 8 * cells c ≤ length h') × (cellAt to + 8 * cells c ≤ length h')) × Movable h' f
-  code-requires to h' q m =
-      let e' : to ≡ liftTo e f n (cells c) = rw (l .size) at q in
-      ((l .under, m .old, subst (λ (x : ℕ). cellAt x + 8 * cells c ≤ length h') (sym e') (m .new)), m .movable)
-
-  pub code-done : (to first : ℕ) (h' : List ℕ) → to ≡ liftTo e f n k → first ≡ liftFirst e f n k → Moves (pagesOf h) h' (roomed h c e) c e f n → zoned (moved h' c f to) c first n ≡ roomed h c e
-  code-done to first h' q q' m =
-      let e' : to ≡ liftTo e f n (cells c) = rw (l .size) at q in
-      let e'' : first ≡ liftFirst e f n (cells c) = rw (l .size) at q' in
-      rw (e', e'') (m .bytes)
+end-small f n k a b c = omega (arith, zone-fits n k b c)
 
 -- ---- zone c is lowered: h₀ are the bytes at first, h those now
 

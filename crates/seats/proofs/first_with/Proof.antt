@@ -1,7 +1,7 @@
 use borrow.Author.Tests.{eq-eqb, ne-eqb}
-use Rattle.zones.specs.Place.{firstWith}
-use Rattle.zones.proofs.place.first_with.Statement.{statement}
-use Rattle.zones.proofs.place.first_with.Tie as tie
+use Rattle.seats.specs.Seat.{firstWith}
+use Rattle.seats.proofs.first_with.Statement.{statement}
+use Rattle.seats.proofs.first_with.Tie as tie
 
 returns : tie.Need-returns
 unfolding firstWith

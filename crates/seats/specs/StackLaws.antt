@@ -1,0 +1,154 @@
+-- Zones that lie one behind the other: room is made inside the bytes, and leaves what lies before it.
+use mathlib.Core.Path.{_≡_, refl, sym, ap, _∙_, subst}
+use mathlib.Core.Logic.{_≢_}
+use mathlib.Core.Option.{Option, none, some, Option·map}
+use mathlib.Core.List.{List}
+use Prim.Native.Nat.{ℕ, zero, suc, _+_, _*_, _-_, _≤_, _<_}
+use native.Mathlib.Omega.{arith}
+use lib.Dec.{leb}
+use lib.ListN.{length}
+use borrow.Author.Tests.{eq-eqb, ne-eqb, le-leb, lt-leb, leb-true}
+use Rattle.wire.specs.Cases.{by-eq, by-lt}
+use Rattle.home.specs.Capacities.{cells}
+use Rattle.home.specs.CapacitiesLaws.{cells-mono, cells-pos}
+use Rattle.home.specs.Cases.{by-pick, Holds}
+use Rattle.home.specs.Bytes.{cellAt, firstAt, manyAt, endAt}
+use Rattle.home.specs.EndLaws.{end-none, end-some}
+use Rattle.seats.specs.Seat.{cellFor, endFrom, nextZone, displaced, raised, Stacked}
+use Rattle.seats.specs.SeatLaws.{cell-none, cell-some}
+use Rattle.seats.specs.UntouchedLaws.{Untouched, untouched-same, untouched-both, untouched-movable, untouched-displaced, length-displaced}
+
+-- ---- room made, zone by zone
+
+module _ (m : ℕ) (h : List ℕ) (c e : ℕ) where
+  pub raised-skip : manyAt h c ≡ 0 → raised (suc m) h c e ≡ raised m h (suc c) e
+  unfolding raised
+  raised-skip z = rw (eq-eqb (manyAt h c) 0 z)
+
+  pub raised-stays : manyAt h c ≢ 0 → e ≤ firstAt h c → raised (suc m) h c e ≡ some h
+  unfolding raised
+  raised-stays z g = rw (ne-eqb (manyAt h c) 0 z, le-leb e (firstAt h c) g)
+
+  -- where its first block goes
+  abbrev pub lift : ℕ
+  lift = cellFor e (firstAt h c + cells c) (manyAt h c - 1) (cells c)
+
+  pub raised-lifts : manyAt h c ≢ 0 → firstAt h c < e
+      → raised (suc m) h c e ≡ Option·map (λ (x : List ℕ). displaced x c (firstAt h c) (manyAt h c - 1) lift) (raised m h (suc c) (lift + cells c))
+  unfolding raised
+  raised-lifts z g = rw (ne-eqb (manyAt h c) 0 z, lt-leb e (firstAt h c) g)
+
+  -- not before its zone's second cell, and not before e where it is alone
+  pub lift-low : manyAt h c ≢ 0 → firstAt h c < e → suc (firstAt h c) ≤ lift
+  lift-low z g = by-eq (manyAt h c - 1) 0
+      (λ q. omega (arith, cell-none e (firstAt h c + cells c) (manyAt h c - 1) (cells c) q))
+      (λ q. omega (arith, cell-some e (firstAt h c + cells c) (manyAt h c - 1) (cells c) q, cells-pos c))
+
+  -- and not behind the zone's end, if e is at most a block behind its start
+  pub lift-high : manyAt h c ≢ 0 → e ≤ firstAt h c + cells c → (lift ≤ firstAt h c + manyAt h c * cells c) × (e ≤ lift + cells c)
+  lift-high z g =
+      let p : manyAt h c ≡ suc (manyAt h c - 1) = omega arith in
+      let t : manyAt h c * cells c ≡ suc (manyAt h c - 1) * cells c = ap (λ (x : ℕ). x * cells c) p in
+      by-eq (manyAt h c - 1) 0
+      (λ q. (omega (arith, cell-none e (firstAt h c + cells c) (manyAt h c - 1) (cells c) q), omega (arith, cell-none e (firstAt h c + cells c) (manyAt h c - 1) (cells c) q)))
+      (λ q. (omega (arith, cell-some e (firstAt h c + cells c) (manyAt h c - 1) (cells c) q), omega (arith, cell-some e (firstAt h c + cells c) (manyAt h c - 1) (cells c) q)))
+
+pub one-of : (n k : ℕ) → n ≢ 0 → k ≤ n * k
+one-of zero k z = absurd (z refl)
+one-of (suc n) k z = omega arith
+
+pub holds-under : {A : Type 0} (P Q : A → Type 0) (f : A → A) (o : Option A) → ((x : A) → P x → Q (f x)) → Holds P o → Holds Q (Option·map f o)
+holds-under P Q f none g p = tt
+holds-under P Q f (some x) g p = g x p
+
+-- the bytes stay as many
+pub raised-long : (h : List ℕ) (m c e : ℕ) → Holds (λ (x : List ℕ). length x ≡ length h) (raised m h c e)
+unfolding raised
+raised-long h zero c e = by-pick (Holds (λ (x : List ℕ). length x ≡ length h)) (leb (cellAt e) (length h)) (λ t. refl) (λ t. tt)
+raised-long h (suc m) c e =
+    let P : List ℕ → Type 0 = λ (x : List ℕ). length x ≡ length h in
+    by-eq (manyAt h c) 0
+    (λ z. subst (Holds P) (sym (raised-skip m h c e z)) (raised-long h m (suc c) e))
+    (λ z. by-lt (firstAt h c) e
+    (λ a. subst (Holds P) (sym (raised-lifts m h c e z a))
+    (holds-under P P (λ (x : List ℕ). displaced x c (firstAt h c) (manyAt h c - 1) (lift m h c e)) (raised m h (suc c) (lift m h c e + cells c))
+    (λ x q. length-displaced x c (firstAt h c) (manyAt h c - 1) (lift m h c e) ∙ q) (raised-long h m (suc c) (lift m h c e + cells c))))
+    (λ a. subst (Holds P) (sym (raised-stays m h c e z a)) refl))
+
+-- ---- zones one behind the other
+
+module _ (h : List ℕ) where
+  end-low : (m c e : ℕ) → Stacked (suc m) h c e → e ≤ endAt h c e
+  end-low m c e s = by-eq (manyAt h c) 0
+      (λ z. omega (arith, end-none h c e z))
+      (λ z. omega (arith, end-some h c e z, s .0 z .0))
+
+  pub stacked-inside : (m c e : ℕ) → Stacked m h c e → cellAt e ≤ length h
+  stacked-inside zero c e s = s
+  stacked-inside (suc m) c e s = omega (arith, end-low m c e s, stacked-inside m (suc c) (endAt h c e) (s .1))
+
+  -- so do those behind the first of them, from where these end
+  pub stacked-on : (j m c e : ℕ) → Stacked (j + m) h c e → Stacked m h (j + c) (endFrom j h c e)
+  unfolding endFrom
+  stacked-on zero m c e s = let i : c ≡ 0 + c = omega arith in let k : 0 + m ≡ m = omega arith in subst (λ (d : ℕ). Stacked m h d e) i (subst (λ (x : ℕ). Stacked x h c e) k s)
+  stacked-on (suc j) m c e s =
+      let i : j + suc c ≡ suc j + c = omega arith in
+      let k : suc j + m ≡ suc (j + m) = omega arith in
+      let s' : Stacked (suc (j + m)) h c e = subst (λ (x : ℕ). Stacked x h c e) k s in
+      subst (λ (d : ℕ). Stacked m h d (endFrom j h (suc c) (endAt h c e))) i (stacked-on j m (suc c) (endAt h c e) (s' .1))
+
+  -- room is made inside the bytes
+  pub raised-inside : (m c e₀ e : ℕ) → Stacked m h c e₀ → e ≤ e₀ + cells c → Holds (λ (x : List ℕ). cellAt e ≤ length h) (raised m h c e)
+  unfolding raised
+  raised-inside zero c e₀ e s g = by-pick (Holds (λ (x : List ℕ). cellAt e ≤ length h)) (leb (cellAt e) (length h)) (λ t. leb-true (cellAt e) (length h) t) (λ t. tt)
+  raised-inside (suc m) c e₀ e s g =
+      let P : List ℕ → Type 0 = λ (x : List ℕ). cellAt e ≤ length h in
+      by-eq (manyAt h c) 0
+      (λ z. subst (Holds P) (sym (raised-skip m h c e z)) (raised-inside m (suc c) (endAt h c e₀) e (s .1) (omega (arith, end-none h c e₀ z, cells-mono c))))
+      (λ z. by-lt (firstAt h c) e
+      (λ a. subst (Holds P) (sym (raised-lifts m h c e z a))
+      (holds-under (λ (x : List ℕ). cellAt (lift m h c e + cells c) ≤ length h) P (λ (x : List ℕ). displaced x c (firstAt h c) (manyAt h c - 1) (lift m h c e)) (raised m h (suc c) (lift m h c e + cells c))
+      (λ x b. omega (arith, lift-high m h c e z (omega (arith, s .0 z .0)) .1))
+      (raised-inside m (suc c) (endAt h c e₀) (lift m h c e + cells c) (s .1) (omega (arith, end-some h c e₀ z, lift-high m h c e z (omega (arith, s .0 z .0)) .0, cells-mono c)))))
+      (λ a. subst (Holds P) (sym (raised-stays m h c e z a)) (omega (arith, end-some h c e₀ z, stacked-inside m (suc c) (endAt h c e₀) (s .1)))))
+
+  -- and leaves what lies before it
+  pub raised-untouched : (m c e₀ e lo : ℕ) → c + m ≡ 30 → Stacked m h c e₀ → lo ≤ e₀ → lo ≤ e → Holds (Untouched lo h) (raised m h c e)
+  unfolding raised
+  raised-untouched zero c e₀ e lo k s g g' = by-pick (Holds (Untouched lo h)) (leb (cellAt e) (length h)) (λ t. untouched-same lo h) (λ t. tt)
+  raised-untouched (suc m) c e₀ e lo k s g g' =
+      by-eq (manyAt h c) 0
+      (λ z. subst (Holds (Untouched lo h)) (sym (raised-skip m h c e z)) (raised-untouched m (suc c) (endAt h c e₀) e lo (omega arith) (s .1) (omega (arith, end-none h c e₀ z)) g'))
+      (λ z. by-lt (firstAt h c) e
+      (λ a. let f : ℕ = firstAt h c in
+      let q : ℕ = lift m h c e in
+      subst (Holds (Untouched lo h)) (sym (raised-lifts m h c e z a))
+      (holds-under (Untouched (suc f) h) (Untouched lo h) (λ (x : List ℕ). displaced x c f (manyAt h c - 1) q) (raised m h (suc c) (q + cells c))
+      (λ x u. untouched-both lo (suc f) h x (displaced x c f (manyAt h c - 1) q) (omega (arith, s .0 z .0)) u
+      (untouched-displaced lo x c f (manyAt h c - 1) q (omega arith) (untouched-movable (suc f) h x f u (omega arith) (s .0 z .1)) (omega (arith, s .0 z .0)) (omega (arith, s .0 z .0, lift-low m h c e z a))))
+      (raised-untouched m (suc c) (endAt h c e₀) (q + cells c) (suc f) (omega arith) (s .1) (omega (arith, end-some h c e₀ z, cells-pos c, one-of (manyAt h c) (cells c) z)) (omega (arith, lift-low m h c e z a)))))
+      (λ a. subst (Holds (Untouched lo h)) (sym (raised-stays m h c e z a)) (untouched-same lo h)))
+
+-- ---- the next nonempty zone
+
+-- it is the first that counts
+pub record Next (m : ℕ) (h : List ℕ) (c e₀ d : ℕ) : Type 0 where
+  pub low : c ≤ d
+  pub high : d ≤ 30
+  pub some : d ≢ 30 → manyAt h d ≢ 0
+  pub same : (e : ℕ) → raised m h c e ≡ raised (30 - d) h d e
+  pub stacked : Stacked (30 - d) h d e₀
+
+pub next-is : (m : ℕ) (h : List ℕ) (c e₀ : ℕ) → c + m ≡ 30 → Stacked m h c e₀ → Next m h c e₀ (nextZone m h c)
+unfolding nextZone
+next-is zero h c e₀ k s =
+    let z : 0 ≡ 30 - c = omega arith in
+    record { low = omega arith; high = omega arith; some = λ q. absurd (q (omega arith)); same = λ e. ap (λ (j : ℕ). raised j h c e) z; stacked = subst (λ (j : ℕ). Stacked j h c e₀) z s }
+next-is (suc m) h c e₀ k s =
+    by-eq (manyAt h c) 0
+    (λ z. let n : Next m h (suc c) e₀ (nextZone m h (suc c)) = next-is m h (suc c) e₀ (omega arith) (subst (Stacked m h (suc c)) (end-none h c e₀ z) (s .1)) in
+    subst (Next (suc m) h c e₀) (sym (rw (eq-eqb (manyAt h c) 0 z) refl))
+    (record { low = omega (arith, n .low); high = n .high; some = n .some; same = λ e. raised-skip m h c e z ∙ n .same e; stacked = n .stacked }))
+    (λ z. let j : suc m ≡ 30 - c = omega arith in
+    subst (Next (suc m) h c e₀) (sym (rw (ne-eqb (manyAt h c) 0 z) refl))
+    (record { low = omega arith; high = omega arith; some = λ q. z; same = λ e. ap (λ (i : ℕ). raised i h c e) j; stacked = subst (λ (i : ℕ). Stacked i h c e₀) j s }))
