@@ -5,7 +5,8 @@ const LONGEST: usize = 989;
 const DICTIONARY: usize = 128;
 const AREA: usize = 1664;
 
-const SIZE: [usize; CLASSES] = {
+/// The cells of a block, by class.
+pub const SIZE: [usize; CLASSES] = {
     let mut all = [5; CLASSES];
     let mut c = 1;
     while c < CLASSES {
@@ -412,6 +413,28 @@ fn write_block(h: &mut [u8], cell: usize, c: usize, tag: u32, list: &[u8]) {
     b[8 + list.len()..].fill(0);
 }
 
+/// Adds a tag as the i-th, with its block of class c.
+fn add_tag(h: &mut [u8], i: usize, cell: usize, c: usize, tag: u32, list: &[u8]) {
+    let (entry, tags) = (DICTIONARY + 6 * i, two(h, 0));
+    h.copy_within(entry..DICTIONARY + 6 * tags, entry + 6);
+    h[entry..entry + 4].copy_from_slice(&tag.to_be_bytes());
+    set_two(h, entry + 4, cell);
+    set_two(h, 0, tags + 1);
+    write_block(h, cell, c, tag, list);
+}
+
+/// A workspace of blocks of these classes, which rise, without gaps. Tags count from 0, and each block is
+/// filled with the first of the records.
+pub fn packed(pages: usize, classes: &[usize], records: &[u8]) -> Vec<u8> {
+    let mut h = vec![0; AREA + 64 * pages];
+    let mut t = table(&h);
+    for (i, &c) in classes.iter().enumerate() {
+        let cell = place(&mut h, &mut t, c);
+        add_tag(&mut h, i, cell, c, i as u32, &records[..8 * (SIZE[c] - 1)]);
+    }
+    h
+}
+
 pub fn put(space: &mut [u8], tag: u32, r: [u8; 8]) -> Result<u32, u8> {
     put_by(space, tag, r).map(|(n, _)| n)
 }
@@ -437,12 +460,7 @@ pub fn put_by(space: &mut [u8], tag: u32, r: [u8; 8]) -> Result<(u32, Way), u8> 
             return Err(12);
         }
         let (cell, way) = settle(space, &mut t, 0, cells);
-        let entry = DICTIONARY + 6 * i;
-        space.copy_within(entry..DICTIONARY + 6 * tags, entry + 6);
-        space[entry..entry + 4].copy_from_slice(&tag.to_be_bytes());
-        set_two(space, entry + 4, cell);
-        set_two(space, 0, tags + 1);
-        write_block(space, cell, 0, tag, &r);
+        add_tag(space, i, cell, 0, tag, &r);
         return Ok((1, way));
     };
     let entry = DICTIONARY + 6 * i;

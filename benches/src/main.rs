@@ -21,6 +21,7 @@ fn main() {
     against_sqlite(repeats);
     by_size(repeats);
     laid_afresh(repeats);
+    placing(repeats);
 }
 
 // ---- timing
@@ -60,13 +61,23 @@ impl Race {
         Race((0..repeats).map(|_| turn()).collect())
     }
 
+    /// The median of what f makes of each turn's times.
+    fn of(&self, f: impl Fn(&[f64]) -> f64) -> f64 {
+        median(self.0.iter().map(|t| f(t)).collect())
+    }
+
     fn time(&self, i: usize) -> f64 {
-        median(self.0.iter().map(|t| t[i]).collect())
+        self.of(|t| t[i])
     }
 
     /// The i-th time as a multiple of the j-th.
     fn ratio(&self, i: usize, j: usize) -> f64 {
-        median(self.0.iter().map(|t| t[i] / t[j]).collect())
+        self.of(|t| t[i] / t[j])
+    }
+
+    /// By how much the i-th time is above the j-th.
+    fn above(&self, i: usize, j: usize) -> f64 {
+        self.of(|t| t[i] - t[j])
     }
 }
 
@@ -363,6 +374,28 @@ fn by_size(repeats: usize) {
     }
 }
 
+// ---- edits
+
+type Edit<'a> = &'a dyn Fn(&mut [u8]);
+
+/// The times of the soundness test and then of edits, each after a copy of the workspace, whose time is
+/// first and left out of the others.
+fn race_on(start: &[u8], edits: &[Edit], repeats: usize) -> Race {
+    let copy: Edit = &|_| ();
+    let sound: Edit = &|space| _ = black_box(cix::count_space(space, u32::MAX)).unwrap();
+    let calls = [copy, sound].into_iter().chain(edits.iter().copied());
+    let on_copy = calls.map(|call| {
+        let mut space = start.to_vec();
+        move || {
+            space.copy_from_slice(start);
+            call(black_box(&mut space));
+        }
+    });
+    let mut fs: Vec<_> = on_copy.collect();
+    let race = Race::run(repeats, fs.iter_mut().map(|f| f as &mut dyn FnMut()).collect());
+    Race(race.0.iter().map(|t| t.iter().map(|x| x - t[0]).collect()).collect())
+}
+
 // ---- zones laid out afresh
 
 /// A full workspace, and puts on it: one that lays all zones out afresh, one that changes its list's class
@@ -408,33 +441,19 @@ fn edge(b: &mut Bench) -> Edge {
     }
 }
 
-/// The times of the soundness test, the three puts, and the first of them by hand, each after a copy of
-/// the workspace, whose time is first and left out of the others.
+/// The times of the three puts, and of the first of them by hand.
 fn race_at(e: &Edge, repeats: usize) -> Race {
-    let mut spaces: [_; 6] = std::array::from_fn(|_| e.space.clone());
-    let [copy, sound, afresh, placed, kept, by_hand] = &mut spaces;
-    let put = |space: &mut [u8], (tag, call): (u32, Record)| {
-        space.copy_from_slice(&e.space);
-        cix::put(black_box(space), tag, call).unwrap();
-    };
-    let race = Race::run(
-        repeats,
-        vec![
-            &mut || black_box(&mut *copy).copy_from_slice(&e.space),
-            &mut || {
-                sound.copy_from_slice(&e.space);
-                black_box(cix::count_space(black_box(sound), u32::MAX)).unwrap();
-            },
-            &mut || put(afresh, e.afresh),
-            &mut || put(placed, e.placed),
-            &mut || put(kept, e.kept),
-            &mut || {
-                by_hand.copy_from_slice(&e.space);
-                hand::put(black_box(by_hand), e.afresh.0, bytes(e.afresh.1)).unwrap();
-            },
+    let put = |(tag, call)| move |space: &mut [u8]| _ = cix::put(space, tag, call).unwrap();
+    race_on(
+        &e.space,
+        &[
+            &put(e.afresh),
+            &put(e.placed),
+            &put(e.kept),
+            &|space| _ = hand::put(space, e.afresh.0, bytes(e.afresh.1)).unwrap(),
         ],
-    );
-    Race(race.0.iter().map(|t| t.iter().map(|x| x - t[0]).collect()).collect())
+        repeats,
+    )
 }
 
 fn laid_afresh(repeats: usize) {
@@ -456,5 +475,34 @@ fn laid_afresh(repeats: usize) {
             ratio(2, 1),
             ratio(2, 5)
         );
+    }
+}
+
+// ---- placing
+
+/// A workspace of full blocks without gaps, one of each class below `others` and one more of class c, its
+/// zone's last, and the put that changes the class of that one's list.
+fn packed(others: usize, c: usize) -> (Vec<u8>, (u32, Record)) {
+    let mut classes: Vec<usize> = (0..others).collect();
+    let tag = classes.partition_point(|&d| d <= c);
+    classes.insert(tag, c);
+    let call = |second, phone| Record { level: 1, second, phone, minutes: 0 };
+    let records: Vec<u8> = (0..989).flat_map(|second| bytes(call(second, 0))).collect();
+    (hand::packed(1024, &classes, &records), (tag as u32, call(hand::SIZE[c] as u32 / 2, 1)))
+}
+
+fn placing(repeats: usize) {
+    println!("\nPuts that change a list's class, beside lists of all classes and alone, R = 1,024, in microseconds\n");
+    println!("| calls | lists beside | put | soundness test | difference |");
+    println!("|---|---|---|---|---|");
+    for c in [0, 28] {
+        for others in [hand::SIZE.len(), 0] {
+            let (space, (tag, call)) = packed(others, c);
+            assert!(way(&space, (tag, call)) == Some(Way::Placed), "the put places no block");
+            let n = hand::SIZE[c] as u32;
+            let race = race_on(&space, &[&|space| assert_eq!(cix::put(space, tag, call), Ok(n))], repeats);
+            let [put, sound, edit] = [race.time(2), race.time(1), race.above(2, 1)].map(|t| t / 1000.0);
+            println!("| {} to {n} | {others} | {put:.2} | {sound:.2} | {edit:.2} |", n - 1);
+        }
     }
 }
