@@ -1,5 +1,5 @@
 -- Case splits on tests inside a statement, and what holds of an answer if there is one.
-use mathlib.Core.Path.{_≡_, refl}
+use mathlib.Core.Path.{_≡_, refl, ap}
 use mathlib.Core.Bool.{Bool, true, false}
 use mathlib.Core.Option.{Option, none, some, IsSome, Option·map}
 use mathlib.Core.List.{List, _∷_}
@@ -25,10 +25,13 @@ abbrev pub Holds : {A : Type 0} → (A → Type 0) → Option A → Type 0
 Holds P none = Unit {0}
 Holds P (some x) = P x
 
+pub holds-under : {A B : Type 0} (P : A → Type 0) (Q : B → Type 0) (f : A → B) (o : Option A) → ((x : A) → P x → Q (f x)) → Holds P o → Holds Q (Option·map f o)
+holds-under P Q f none h p = tt
+holds-under P Q f (some x) h p = h x p
+
 pub holds-map : {A : Type 0} (P Q : List A → Type 0) (z : A) → ((zs : List A) → P zs → Q (z ∷ zs)) → (o : Option (List A)) → Holds P o
     → Holds Q (Option·map (λ (r : List A). z ∷ r) o)
-holds-map P Q z h none p = tt
-holds-map P Q z h (some zs) p = h zs p
+holds-map P Q z h o p = holds-under P Q (λ r. z ∷ r) o h p
 
 pub holds-some : {A : Type 0} (P : A → Type 0) (o : Option A) (x : A) → o ≡ some x → Holds P o → P x
 holds-some P o x q h = rw q at h
@@ -69,3 +72,17 @@ none-is (some x) h = absurd (h tt)
 pub holds-at : {A G : Type 0} (P : A → Type 0) (o : Option A) → IsSome o → Holds P o → ((x : A) → P x → G) → G
 holds-at P none i p f = absurd i
 holds-at P (some x) i p f = f x p
+
+-- ---- answers changed
+
+pub map-twice : {A B C : Type 0} (f : B → C) (g : A → B) (o : Option A) → Option·map f (Option·map g o) ≡ Option·map (λ (x : A). f (g x)) o
+map-twice f g none = refl
+map-twice f g (some x) = refl
+
+pub map-same : {A B : Type 0} (f g : A → B) (o : Option A) → ((x : A) → f x ≡ g x) → Option·map f o ≡ Option·map g o
+map-same f g none h = refl
+map-same f g (some x) h = ap some (h x)
+
+pub map-swap : {A : Type 0} (f g : A → A) (o : Option A) → ((x : A) → f (g x) ≡ g (f x)) → Option·map f (Option·map g o) ≡ Option·map g (Option·map f o)
+map-swap f g none h = refl
+map-swap f g (some x) h = ap some (h x)

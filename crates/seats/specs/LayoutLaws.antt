@@ -14,7 +14,7 @@ use Rattle.home.specs.CapacitiesLaws.{cells-mono}
 use Rattle.home.specs.Zones.{Block, Zone, empty, from, blocks, lifted, endOf, shift}
 use Rattle.home.specs.PermLaws.{prefl, pleft}
 use Rattle.home.specs.Layout.{Fit}
-use Rattle.home.specs.Cases.{Holds}
+use Rattle.home.specs.Cases.{Holds, map-twice, map-same}
 use Rattle.home.specs.PlaceLaws.{length-snoc}
 use Rattle.home.specs.Bytes.{Spot, row, spots, encode, decode, cellAt, firstAt, manyAt, endAt}
 use Rattle.home.specs.EndLaws.{end-none, end-some}
@@ -79,14 +79,6 @@ stored-ends h s (suc m) c g =
     ∙ stored-ends h s m (suc c) (omega arith) ∙ ap (λ (k : ℕ). endAfter 0 0 (take k (decode h))) e
 
 -- ---- a layout at a zone
-
-pub map-twice : {A B C : Type 0} (f : B → C) (g : A → B) (o : Option A) → Option·map f (Option·map g o) ≡ Option·map (λ (x : A). f (g x)) o
-map-twice f g none = refl
-map-twice f g (some x) = refl
-
-map-same : {A B : Type 0} (f g : A → B) (o : Option A) → ((x : A) → f x ≡ g x) → Option·map f o ≡ Option·map g o
-map-same f g none h = refl
-map-same f g (some x) h = ap some (h x)
 
 module _ (R : ℕ) (small : R ≤ 1024) (ls : List Zone) (z : Zone) (hs : List Zone) (v : Loose R (ls ++ z ∷ hs)) where
   abbrev h : List ℕ
@@ -202,9 +194,9 @@ module _ (R : ℕ) (small : R ≤ 1024) where
         let h : List ℕ = encode R (ls ++ z ∷ hs) in
         let a = entry-here R small ls z hs v in
         let n : manyAt h k - 1 ≡ length xs = omega (arith, a .1) in
-        let t : lift (length hs) h k e ≡ to = ap₂ (λ (i j : ℕ). cellFor e (i + cells k) j (cells k)) (a .0) n in
+        let t : lift h k e ≡ to = ap₂ (λ (i j : ℕ). cellFor e (i + cells k) j (cells k)) (a .0) n in
         let s : shift cells (8 * R) k e (z ∷ hs) ≡ Option·map (λ (r : List Zone). up ∷ r) o = shift-lifts (8 * R) k e f x xs hs over in
-        raised-lifts (length hs) h k e (λ y. omega (arith, a .1)) (omega (arith, a .0))
+        raised-lifts h k e (length hs) (λ y. omega (arith, a .1)) (omega (arith, a .0))
         ∙ rw (t, a .0, n) (ap (Option·map (λ (w : List ℕ). displaced w k f (length xs) to)) (above ls z hs v (to + cells k) q)
         ∙ lifted-bytes o
         (shift-fit (8 * R) (suc k) (f + suc (length xs) * cells k) (to + cells k) hs (stands R small ls z hs v .1) to-low to-high)
@@ -220,7 +212,7 @@ module _ (R : ℕ) (small : R ≤ 1024) where
   raised-layout (empty ∷ hs) ls e v lo hi =
       let p : endAfter 0 0 (ls ++ empty ∷ []) ≡ endAfter 0 0 ls = end-passed R small ls empty hs v in
       let g : cells (length ls) ≤ cells (length (ls ++ empty ∷ [])) = rw (long-next ls empty hs) (cells-mono (length ls)) in
-      raised-skip (length hs) (encode R (ls ++ empty ∷ hs)) (length ls) e (entry-here R small ls empty hs v .1)
+      raised-skip (encode R (ls ++ empty ∷ hs)) (length ls) e (length hs) (entry-here R small ls empty hs v .1)
       ∙ above ls empty hs v e (raised-layout hs (ls ++ empty ∷ []) e (loose-next R small ls empty hs v) (omega (arith, p)) (omega (arith, p, g)))
       ∙ sym (map-twice (λ (r : List Zone). encode R (ls ++ r)) (λ (r : List Zone). empty ∷ r) (shift cells (8 * R) (suc (length ls)) e hs))
   raised-layout (from f x xs ∷ hs) ls e v lo hi =
@@ -233,7 +225,7 @@ module _ (R : ℕ) (small : R ≤ 1024) where
       lifts ls f x xs hs e v lo hi g
       (raised-layout hs (ls ++ z ∷ []) (to + cells (length ls)) (loose-next R small ls z hs v)
       (omega (arith, p, to-low ls f x xs hs e v lo hi g)) (omega (arith, p, k, to-high ls f x xs hs e v lo hi g))))
-      (λ g. raised-stays (length hs) (encode R (ls ++ z ∷ hs)) (length ls) e (λ q. omega (arith, a .1)) (omega (arith, a .0))
+      (λ g. raised-stays (encode R (ls ++ z ∷ hs)) (length ls) e (length hs) (λ q. omega (arith, a .1)) (omega (arith, a .0))
       ∙ ap (Option·map (λ (r : List Zone). encode R (ls ++ r))) (sym (shift-stays (8 * R) (length ls) e f x xs hs g)))
 
 -- stored bytes' zones lie one behind the other

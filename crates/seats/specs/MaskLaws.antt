@@ -1,7 +1,7 @@
 -- Other bytes in the zone entries below class c: what is read and written from class c up does not see them, and leaves them.
 use mathlib.Core.Path.{_≡_, refl, sym, ap, ap₂, _∙_, subst}
 use mathlib.Core.Logic.{inl, inr}
-use mathlib.Core.Option.{Option, none, some, Option·map}
+use mathlib.Core.Option.{Option·map}
 use mathlib.Core.List.{List, _++_}
 use Prim.Native.Nat.{ℕ, zero, suc, _+_, _*_, _-_, _≤_}
 use native.Mathlib.Omega.{arith}
@@ -11,6 +11,7 @@ use Rattle.wire.specs.Bytes.{part, over, get16, get32, bytes16}
 use Rattle.wire.specs.BytesLaws.{length-over}
 use Rattle.wire.specs.Cases.{by-test, by-eq, by-lt}
 use Rattle.home.specs.Capacities.{cells}
+use Rattle.home.specs.Cases.{map-swap}
 use Rattle.home.specs.Bytes.{cellAt, entryAt, firstAt, manyAt, endAt}
 use Rattle.home.specs.BytesLaws.{part-else}
 use Rattle.home.specs.Lookup.{rankAt, indexOf}
@@ -101,11 +102,6 @@ module _ (low : List ℕ) (c : ℕ) (long : length low ≡ 4 * c) (under : c ≤
   mask-ends zero h d e g = refl
   mask-ends (suc m) h d e g = ap (endFrom m (masked low h) (suc d)) (mask-end h d g e) ∙ mask-ends m h (suc d) (endAt h d e) (omega arith)
 
-  map-masked : (d f n q : ℕ) → c ≤ d → (o : Option (List ℕ))
-      → Option·map (λ (x : List ℕ). displaced x d f n q) (Option·map (masked low) o) ≡ Option·map (masked low) (Option·map (λ (x : List ℕ). displaced x d f n q) o)
-  map-masked d f n q g none = refl
-  map-masked d f n q g (some x) = ap some (mask-displaced x d f n q g)
-
   -- room made
   pub mask-raised : (m : ℕ) (h : List ℕ) (d e : ℕ) → c ≤ d → raised m (masked low h) d e ≡ Option·map (masked low) (raised m h d e)
   unfolding raised
@@ -115,10 +111,10 @@ module _ (low : List ℕ) (c : ℕ) (long : length low ≡ 4 * c) (under : c ≤
       (λ t. rw (length-over h 2 low, t))
   mask-raised (suc m) h d e g =
       by-eq (manyAt h d) 0
-      (λ z. raised-skip m (masked low h) d e (mask-many h d g ∙ z) ∙ mask-raised m h (suc d) e (omega arith) ∙ ap (Option·map (masked low)) (sym (raised-skip m h d e z)))
+      (λ z. raised-skip (masked low h) d e m (mask-many h d g ∙ z) ∙ mask-raised m h (suc d) e (omega arith) ∙ ap (Option·map (masked low)) (sym (raised-skip h d e m z)))
       (λ z. by-lt (firstAt h d) e
-      (λ a. raised-lifts m (masked low h) d e (λ y. z (sym (mask-many h d g) ∙ y)) (omega (arith, mask-first h d g))
-      ∙ rw (mask-many h d g, mask-first h d g) (ap (Option·map (λ (x : List ℕ). displaced x d (firstAt h d) (manyAt h d - 1) (lift m h d e))) (mask-raised m h (suc d) (lift m h d e + cells d) (omega arith))
-      ∙ map-masked d (firstAt h d) (manyAt h d - 1) (lift m h d e) g (raised m h (suc d) (lift m h d e + cells d)))
-      ∙ ap (Option·map (masked low)) (sym (raised-lifts m h d e z a)))
-      (λ a. raised-stays m (masked low h) d e (λ y. z (sym (mask-many h d g) ∙ y)) (omega (arith, mask-first h d g)) ∙ ap (Option·map (masked low)) (sym (raised-stays m h d e z a))))
+      (λ a. raised-lifts (masked low h) d e m (λ y. z (sym (mask-many h d g) ∙ y)) (omega (arith, mask-first h d g))
+      ∙ rw (mask-many h d g, mask-first h d g) (ap (Option·map (λ (x : List ℕ). displaced x d (firstAt h d) (manyAt h d - 1) (lift h d e))) (mask-raised m h (suc d) (lift h d e + cells d) (omega arith))
+      ∙ map-swap (λ (x : List ℕ). displaced x d (firstAt h d) (manyAt h d - 1) (lift h d e)) (masked low) (raised m h (suc d) (lift h d e + cells d)) (λ x. mask-displaced x d (firstAt h d) (manyAt h d - 1) (lift h d e) g))
+      ∙ ap (Option·map (masked low)) (sym (raised-lifts h d e m z a)))
+      (λ a. raised-stays (masked low h) d e m (λ y. z (sym (mask-many h d g) ∙ y)) (omega (arith, mask-first h d g)) ∙ ap (Option·map (masked low)) (sym (raised-stays h d e m z a))))

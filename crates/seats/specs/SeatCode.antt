@@ -100,7 +100,7 @@ module _ (h : List ℕ) (c f n e k p d : ℕ) (s : Seating h c f n e k p d) wher
 
     pub seat-before : (g : ℕ) → g ≡ firstAt h d → p + k ≤ g → Answers h c f n e (At p) h
     unfolding roomOf isSome
-    seat-before g a b = answers (some h) (At p) h (seated-on ∙ raised-stays (29 - d) h d (p + k) (next .some q) (subst (λ (x : ℕ). p + k ≤ x) a b)) refl refl
+    seat-before g a b = answers (some h) (At p) h (seated-on ∙ raised-stays h d (p + k) (29 - d) (next .some q) (subst (λ (x : ℕ). p + k ≤ x) a b)) refl refl
 
 -- zone d's first block at cell g is in the way; it has m others, from cell `rest` on
 pub record InWay (h : List ℕ) (c f n e k p d g rest m : ℕ) : Type 0 where
@@ -128,7 +128,7 @@ module _ (h : List ℕ) (c f n e k p d g rest m : ℕ) (w : InWay h c f n e k p 
   stack = stack-on h c f n e k p d s (w .further)
 
   abbrev to : ℕ
-  to = lift (29 - d) h d (p + k)
+  to = lift h d (p + k)
 
   to-is : cellFor (p + k) rest m (cells d) ≡ to
   to-is = rw (w .start, w .first, w .others)
@@ -144,7 +144,7 @@ module _ (h : List ℕ) (c f n e k p d g rest m : ℕ) (w : InWay h c f n e k p 
     class = under;
     long = s .able .long;
     above = rw add-one (subst (Stacked (29 - d) h (suc d)) (end-some h d old-end some-there ∙ sym (end-some h d (p + k) some-there)) (stack .1));
-    cell = omega (arith, to-is, end-some h d (p + k) some-there, lift-high (29 - d) h d (p + k) some-there close .0);
+    cell = omega (arith, to-is, end-some h d (p + k) some-there, lift-high h d (p + k) some-there close .0);
   }
 
   abbrev o : Option (List ℕ)
@@ -154,18 +154,18 @@ module _ (h : List ℕ) (c f n e k p d g rest m : ℕ) (w : InWay h c f n e k p 
   again-is = rw (add-one, to-is)
 
   lifts : seated h c f n e ≡ Option·map (λ (x : List ℕ). displaced x d g m to) o
-  lifts = rw (w .first, w .others) (seated-on h c f n e k p d s (w .further) ∙ raised-lifts (29 - d) h d (p + k) some-there way)
+  lifts = rw (w .first, w .others) (seated-on h c f n e k p d s (w .further) ∙ raised-lifts h d (p + k) (29 - d) some-there way)
 
   old : cellAt g + 8 * cells d ≤ length h
   old = omega (arith, w .first, end-some h d old-end some-there, one-of (manyAt h d) (cells d) some-there, stacked-inside h (29 - d) (suc d) (endAt h d old-end) (stack .1))
 
   left : Holds (Untouched (suc g) h) o
   left = raised-untouched h (29 - d) (suc d) (endAt h d old-end) (to + cells d) (suc g) (omega (arith, under)) (stack .1)
-      (omega (arith, w .first, end-some h d old-end some-there, one-of (manyAt h d) (cells d) some-there, cells-pos d)) (omega (arith, w .first, lift-low (29 - d) h d (p + k) some-there way))
+      (omega (arith, w .first, end-some h d old-end some-there, one-of (manyAt h d) (cells d) some-there, cells-pos d)) (omega (arith, w .first, lift-low h d (p + k) way))
 
   new : Holds (λ (x : List ℕ). cellAt (to + cells d) ≤ length h) o
   new = raised-inside h (29 - d) (suc d) (endAt h d old-end) (to + cells d) (stack .1)
-      (omega (arith, end-some h d old-end some-there, lift-high (29 - d) h d (p + k) some-there close .0, cells-mono d))
+      (omega (arith, end-some h d old-end some-there, lift-high h d (p + k) some-there close .0, cells-mono d))
 
   -- what the call for that block answers
   module _ (r : Room) (h' : List ℕ) (t : Answers h d rest m (p + k) r h') where

@@ -1,7 +1,7 @@
 -- Zones that lie one behind the other: room is made inside the bytes, and leaves what lies before it.
 use mathlib.Core.Path.{_≡_, refl, sym, ap, _∙_, subst}
 use mathlib.Core.Logic.{_≢_}
-use mathlib.Core.Option.{Option, none, some, Option·map}
+use mathlib.Core.Option.{Option, some, Option·map}
 use mathlib.Core.List.{List}
 use Prim.Native.Nat.{ℕ, zero, suc, _+_, _*_, _-_, _≤_, _<_}
 use native.Mathlib.Omega.{arith}
@@ -11,7 +11,7 @@ use borrow.Author.Tests.{eq-eqb, ne-eqb, le-leb, lt-leb, leb-true}
 use Rattle.wire.specs.Cases.{by-eq, by-lt}
 use Rattle.home.specs.Capacities.{cells}
 use Rattle.home.specs.CapacitiesLaws.{cells-mono, cells-pos}
-use Rattle.home.specs.Cases.{by-pick, Holds}
+use Rattle.home.specs.Cases.{by-pick, Holds, holds-under}
 use Rattle.home.specs.Bytes.{cellAt, firstAt, manyAt, endAt}
 use Rattle.home.specs.EndLaws.{end-none, end-some}
 use Rattle.seats.specs.Seat.{cellFor, endFrom, nextZone, displaced, raised, Stacked}
@@ -20,46 +20,54 @@ use Rattle.seats.specs.UntouchedLaws.{Untouched, untouched-same, untouch
 
 -- ---- room made, zone by zone
 
-module _ (m : ℕ) (h : List ℕ) (c e : ℕ) where
-  pub raised-skip : manyAt h c ≡ 0 → raised (suc m) h c e ≡ raised m h (suc c) e
-  unfolding raised
-  raised-skip z = rw (eq-eqb (manyAt h c) 0 z)
-
-  pub raised-stays : manyAt h c ≢ 0 → e ≤ firstAt h c → raised (suc m) h c e ≡ some h
-  unfolding raised
-  raised-stays z g = rw (ne-eqb (manyAt h c) 0 z, le-leb e (firstAt h c) g)
-
-  -- where its first block goes
+module _ (h : List ℕ) (c e : ℕ) where
+  -- where zone c's first block goes if it is in the way
   abbrev pub lift : ℕ
   lift = cellFor e (firstAt h c + cells c) (manyAt h c - 1) (cells c)
 
-  pub raised-lifts : manyAt h c ≢ 0 → firstAt h c < e
-      → raised (suc m) h c e ≡ Option·map (λ (x : List ℕ). displaced x c (firstAt h c) (manyAt h c - 1) lift) (raised m h (suc c) (lift + cells c))
-  unfolding raised
-  raised-lifts z g = rw (ne-eqb (manyAt h c) 0 z, lt-leb e (firstAt h c) g)
+  alone : manyAt h c - 1 ≡ 0 → lift ≡ e
+  alone q = cell-none e (firstAt h c + cells c) (manyAt h c - 1) (cells c) q
 
-  -- not before its zone's second cell, and not before e where it is alone
-  pub lift-low : manyAt h c ≢ 0 → firstAt h c < e → suc (firstAt h c) ≤ lift
-  lift-low z g = by-eq (manyAt h c - 1) 0
-      (λ q. omega (arith, cell-none e (firstAt h c + cells c) (manyAt h c - 1) (cells c) q))
-      (λ q. omega (arith, cell-some e (firstAt h c + cells c) (manyAt h c - 1) (cells c) q, cells-pos c))
+  among : manyAt h c - 1 ≢ 0 → lift ≡ firstAt h c + cells c + (manyAt h c - 1) * cells c
+  among q = cell-some e (firstAt h c + cells c) (manyAt h c - 1) (cells c) q
 
-  -- and not behind the zone's end, if e is at most a block behind its start
+  -- behind the cell that it leaves
+  pub lift-low : firstAt h c < e → suc (firstAt h c) ≤ lift
+  lift-low g = by-eq (manyAt h c - 1) 0 (λ q. omega (arith, alone q)) (λ q. omega (arith, among q, cells-pos c))
+
+  -- and not behind the zone's end, if e is at most a block behind the zone's start; then it ends at or behind e
   pub lift-high : manyAt h c ≢ 0 → e ≤ firstAt h c + cells c → (lift ≤ firstAt h c + manyAt h c * cells c) × (e ≤ lift + cells c)
   lift-high z g =
       let p : manyAt h c ≡ suc (manyAt h c - 1) = omega arith in
       let t : manyAt h c * cells c ≡ suc (manyAt h c - 1) * cells c = ap (λ (x : ℕ). x * cells c) p in
-      by-eq (manyAt h c - 1) 0
-      (λ q. (omega (arith, cell-none e (firstAt h c + cells c) (manyAt h c - 1) (cells c) q), omega (arith, cell-none e (firstAt h c + cells c) (manyAt h c - 1) (cells c) q)))
-      (λ q. (omega (arith, cell-some e (firstAt h c + cells c) (manyAt h c - 1) (cells c) q), omega (arith, cell-some e (firstAt h c + cells c) (manyAt h c - 1) (cells c) q)))
+      by-eq (manyAt h c - 1) 0 (λ q. omega (arith, alone q)) (λ q. omega (arith, among q))
+
+  module _ (m : ℕ) where
+    pub raised-skip : manyAt h c ≡ 0 → raised (suc m) h c e ≡ raised m h (suc c) e
+    unfolding raised
+    raised-skip z = rw (eq-eqb (manyAt h c) 0 z)
+
+    pub raised-stays : manyAt h c ≢ 0 → e ≤ firstAt h c → raised (suc m) h c e ≡ some h
+    unfolding raised
+    raised-stays z g = rw (ne-eqb (manyAt h c) 0 z, le-leb e (firstAt h c) g)
+
+    pub raised-lifts : manyAt h c ≢ 0 → firstAt h c < e
+        → raised (suc m) h c e ≡ Option·map (λ (x : List ℕ). displaced x c (firstAt h c) (manyAt h c - 1) lift) (raised m h (suc c) (lift + cells c))
+    unfolding raised
+    raised-lifts z g = rw (ne-eqb (manyAt h c) 0 z, lt-leb e (firstAt h c) g)
+
+    -- the three ways
+    by-raised : (P : Option (List ℕ) → Type 0) → (manyAt h c ≡ 0 → P (raised m h (suc c) e)) → (manyAt h c ≢ 0 → e ≤ firstAt h c → P (some h))
+        → (manyAt h c ≢ 0 → firstAt h c < e → P (Option·map (λ (x : List ℕ). displaced x c (firstAt h c) (manyAt h c - 1) lift) (raised m h (suc c) (lift + cells c))))
+        → P (raised (suc m) h c e)
+    by-raised P skip stays lifts =
+        by-eq (manyAt h c) 0
+        (λ z. subst P (sym (raised-skip z)) (skip z))
+        (λ z. by-lt (firstAt h c) e (λ a. subst P (sym (raised-lifts z a)) (lifts z a)) (λ a. subst P (sym (raised-stays z a)) (stays z a)))
 
 pub one-of : (n k : ℕ) → n ≢ 0 → k ≤ n * k
 one-of zero k z = absurd (z refl)
 one-of (suc n) k z = omega arith
-
-pub holds-under : {A : Type 0} (P Q : A → Type 0) (f : A → A) (o : Option A) → ((x : A) → P x → Q (f x)) → Holds P o → Holds Q (Option·map f o)
-holds-under P Q f none g p = tt
-holds-under P Q f (some x) g p = g x p
 
 -- the bytes stay as many
 pub raised-long : (h : List ℕ) (m c e : ℕ) → Holds (λ (x : List ℕ). length x ≡ length h) (raised m h c e)
@@ -67,13 +75,9 @@ unfolding raised
 raised-long h zero c e = by-pick (Holds (λ (x : List ℕ). length x ≡ length h)) (leb (cellAt e) (length h)) (λ t. refl) (λ t. tt)
 raised-long h (suc m) c e =
     let P : List ℕ → Type 0 = λ (x : List ℕ). length x ≡ length h in
-    by-eq (manyAt h c) 0
-    (λ z. subst (Holds P) (sym (raised-skip m h c e z)) (raised-long h m (suc c) e))
-    (λ z. by-lt (firstAt h c) e
-    (λ a. subst (Holds P) (sym (raised-lifts m h c e z a))
-    (holds-under P P (λ (x : List ℕ). displaced x c (firstAt h c) (manyAt h c - 1) (lift m h c e)) (raised m h (suc c) (lift m h c e + cells c))
-    (λ x q. length-displaced x c (firstAt h c) (manyAt h c - 1) (lift m h c e) ∙ q) (raised-long h m (suc c) (lift m h c e + cells c))))
-    (λ a. subst (Holds P) (sym (raised-stays m h c e z a)) refl))
+    by-raised h c e m (Holds P) (λ z. raised-long h m (suc c) e) (λ z a. refl)
+    (λ z a. holds-under P P (λ (x : List ℕ). displaced x c (firstAt h c) (manyAt h c - 1) (lift h c e)) (raised m h (suc c) (lift h c e + cells c))
+    (λ x q. length-displaced x c (firstAt h c) (manyAt h c - 1) (lift h c e) ∙ q) (raised-long h m (suc c) (lift h c e + cells c)))
 
 -- ---- zones one behind the other
 
@@ -103,31 +107,29 @@ module _ (h : List ℕ) where
   raised-inside zero c e₀ e s g = by-pick (Holds (λ (x : List ℕ). cellAt e ≤ length h)) (leb (cellAt e) (length h)) (λ t. leb-true (cellAt e) (length h) t) (λ t. tt)
   raised-inside (suc m) c e₀ e s g =
       let P : List ℕ → Type 0 = λ (x : List ℕ). cellAt e ≤ length h in
-      by-eq (manyAt h c) 0
-      (λ z. subst (Holds P) (sym (raised-skip m h c e z)) (raised-inside m (suc c) (endAt h c e₀) e (s .1) (omega (arith, end-none h c e₀ z, cells-mono c))))
-      (λ z. by-lt (firstAt h c) e
-      (λ a. subst (Holds P) (sym (raised-lifts m h c e z a))
-      (holds-under (λ (x : List ℕ). cellAt (lift m h c e + cells c) ≤ length h) P (λ (x : List ℕ). displaced x c (firstAt h c) (manyAt h c - 1) (lift m h c e)) (raised m h (suc c) (lift m h c e + cells c))
-      (λ x b. omega (arith, lift-high m h c e z (omega (arith, s .0 z .0)) .1))
-      (raised-inside m (suc c) (endAt h c e₀) (lift m h c e + cells c) (s .1) (omega (arith, end-some h c e₀ z, lift-high m h c e z (omega (arith, s .0 z .0)) .0, cells-mono c)))))
-      (λ a. subst (Holds P) (sym (raised-stays m h c e z a)) (omega (arith, end-some h c e₀ z, stacked-inside m (suc c) (endAt h c e₀) (s .1)))))
+      let to : ℕ = lift h c e in
+      by-raised h c e m (Holds P)
+      (λ z. raised-inside m (suc c) (endAt h c e₀) e (s .1) (omega (arith, end-none h c e₀ z, cells-mono c)))
+      (λ z a. omega (arith, end-some h c e₀ z, stacked-inside m (suc c) (endAt h c e₀) (s .1)))
+      (λ z a. let b = lift-high h c e z (omega (arith, s .0 z .0)) in
+      holds-under (λ (x : List ℕ). cellAt (to + cells c) ≤ length h) P (λ (x : List ℕ). displaced x c (firstAt h c) (manyAt h c - 1) to) (raised m h (suc c) (to + cells c))
+      (λ x d. omega (arith, b .1)) (raised-inside m (suc c) (endAt h c e₀) (to + cells c) (s .1) (omega (arith, end-some h c e₀ z, b .0, cells-mono c))))
 
   -- and leaves what lies before it
   pub raised-untouched : (m c e₀ e lo : ℕ) → c + m ≡ 30 → Stacked m h c e₀ → lo ≤ e₀ → lo ≤ e → Holds (Untouched lo h) (raised m h c e)
   unfolding raised
   raised-untouched zero c e₀ e lo k s g g' = by-pick (Holds (Untouched lo h)) (leb (cellAt e) (length h)) (λ t. untouched-same lo h) (λ t. tt)
   raised-untouched (suc m) c e₀ e lo k s g g' =
-      by-eq (manyAt h c) 0
-      (λ z. subst (Holds (Untouched lo h)) (sym (raised-skip m h c e z)) (raised-untouched m (suc c) (endAt h c e₀) e lo (omega arith) (s .1) (omega (arith, end-none h c e₀ z)) g'))
-      (λ z. by-lt (firstAt h c) e
-      (λ a. let f : ℕ = firstAt h c in
-      let q : ℕ = lift m h c e in
-      subst (Holds (Untouched lo h)) (sym (raised-lifts m h c e z a))
-      (holds-under (Untouched (suc f) h) (Untouched lo h) (λ (x : List ℕ). displaced x c f (manyAt h c - 1) q) (raised m h (suc c) (q + cells c))
-      (λ x u. untouched-both lo (suc f) h x (displaced x c f (manyAt h c - 1) q) (omega (arith, s .0 z .0)) u
-      (untouched-displaced lo x c f (manyAt h c - 1) q (omega arith) (untouched-movable (suc f) h x f u (omega arith) (s .0 z .1)) (omega (arith, s .0 z .0)) (omega (arith, s .0 z .0, lift-low m h c e z a))))
-      (raised-untouched m (suc c) (endAt h c e₀) (q + cells c) (suc f) (omega arith) (s .1) (omega (arith, end-some h c e₀ z, cells-pos c, one-of (manyAt h c) (cells c) z)) (omega (arith, lift-low m h c e z a)))))
-      (λ a. subst (Holds (Untouched lo h)) (sym (raised-stays m h c e z a)) (untouched-same lo h)))
+      let f : ℕ = firstAt h c in
+      let n : ℕ = manyAt h c - 1 in
+      let to : ℕ = lift h c e in
+      by-raised h c e m (Holds (Untouched lo h))
+      (λ z. raised-untouched m (suc c) (endAt h c e₀) e lo (omega arith) (s .1) (omega (arith, end-none h c e₀ z)) g')
+      (λ z a. untouched-same lo h)
+      (λ z a. holds-under (Untouched (suc f) h) (Untouched lo h) (λ (x : List ℕ). displaced x c f n to) (raised m h (suc c) (to + cells c))
+      (λ x u. untouched-both lo (suc f) h x (displaced x c f n to) (omega (arith, s .0 z .0)) u
+      (untouched-displaced lo x c f n to (omega arith) (untouched-movable (suc f) h x f u (omega arith) (s .0 z .1)) (omega (arith, s .0 z .0)) (omega (arith, s .0 z .0, lift-low h c e a))))
+      (raised-untouched m (suc c) (endAt h c e₀) (to + cells c) (suc f) (omega arith) (s .1) (omega (arith, end-some h c e₀ z, cells-pos c, one-of (manyAt h c) (cells c) z)) (omega (arith, lift-low h c e a))))
 
 -- ---- the next nonempty zone
 
@@ -148,7 +150,7 @@ next-is (suc m) h c e₀ k s =
     by-eq (manyAt h c) 0
     (λ z. let n : Next m h (suc c) e₀ (nextZone m h (suc c)) = next-is m h (suc c) e₀ (omega arith) (subst (Stacked m h (suc c)) (end-none h c e₀ z) (s .1)) in
     subst (Next (suc m) h c e₀) (sym (rw (eq-eqb (manyAt h c) 0 z) refl))
-    (record { low = omega (arith, n .low); high = n .high; some = n .some; same = λ e. raised-skip m h c e z ∙ n .same e; stacked = n .stacked }))
+    (record { low = omega (arith, n .low); high = n .high; some = n .some; same = λ e. raised-skip h c e m z ∙ n .same e; stacked = n .stacked }))
     (λ z. let j : suc m ≡ 30 - c = omega arith in
     subst (Next (suc m) h c e₀) (sym (rw (ne-eqb (manyAt h c) 0 z) refl))
     (record { low = omega arith; high = omega arith; some = λ q. z; same = λ e. ap (λ (i : ℕ). raised i h c e) j; stacked = subst (λ (i : ℕ). Stacked i h c e₀) j s }))

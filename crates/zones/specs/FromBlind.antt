@@ -11,7 +11,7 @@ use Rattle.wire.specs.Bytes.{part, over, get16, bytes16, bytes32}
 use Rattle.wire.specs.BytesLaws.{length-over, over-low, over-high, length-part, part-at, part-over, length-bytes16}
 use Rattle.wire.specs.Cases.{by-within}
 use Rattle.home.specs.Capacities.{cells, classOf}
-use Rattle.home.specs.Cases.{Holds}
+use Rattle.home.specs.Cases.{Holds, holds-under, map-swap}
 use Rattle.home.specs.Bytes.{cellAt, entryAt, firstAt, manyAt, endAt}
 use Rattle.home.specs.Lookup.{indexOf}
 use Rattle.moves.specs.Moves.{wordAt, counted, entered, zoned}
@@ -19,7 +19,7 @@ use Rattle.moves.specs.MovesLaws.{at-in}
 use Rattle.moves.specs.AreaLaws.{over-comm}
 use Rattle.seats.specs.Seat.{cellFor, firstWith, endFrom, raised, seated}
 use Rattle.seats.specs.UntouchedLaws.{Untouched, untouched-ordered}
-use Rattle.seats.specs.StackLaws.{holds-under, raised-long}
+use Rattle.seats.specs.StackLaws.{raised-long}
 use Rattle.seats.specs.MaskLaws.{masked, mask-over, mask-count, mask-part, mask-index, mask-zoned, mask-first, mask-many, mask-end, mask-untouched, mask-stacked, mask-ends, mask-raised}
 use Rattle.zones.specs.Place.{blockOf, withBlock, placedFrom, From}
 
@@ -51,11 +51,6 @@ module _ (low : List ℕ) (c : ℕ) (long : length low ≡ 4 * c) (under : c ≤
       ∙ ap (λ (x : List ℕ). zoned x k (firstWith (manyAt h k) (firstAt h k) p) (manyAt h k + 1)) (mask-entered b t p)
       ∙ mask-zoned low c long under (entered b t p) k (firstWith (manyAt h k) (firstAt h k) p) (manyAt h k + 1) g
 
-  map-masked : (k p t : ℕ) (bs : List ℕ) → c ≤ k → (o : Option (List ℕ))
-      → Option·map (λ (x : List ℕ). withBlock x k p t bs) (Option·map (masked low) o) ≡ Option·map (masked low) (Option·map (λ (x : List ℕ). withBlock x k p t bs) o)
-  map-masked k p t bs g none = refl
-  map-masked k p t bs g (some x) = ap some (mask-block x k p t bs g)
-
   -- they are not seen, and stay
   from-masked : (h : List ℕ) (e t : ℕ) (bs : List ℕ) → c ≤ classOf (length bs / 8) → placedFrom (masked low h) c e t bs ≡ Option·map (masked low) (placedFrom h c e t bs)
   unfolding placedFrom endAt cellFor
@@ -67,7 +62,7 @@ module _ (low : List ℕ) (c : ℕ) (long : length low ≡ 4 * c) (under : c ≤
       ap (λ (d : ℕ). F (endAt (masked low h) k d)) (mask-ends low c long under (k - c) h c e (omega arith))
       ∙ ap F (mask-end low c long under h k g end)
       ∙ ap (Option·map (λ (x : List ℕ). withBlock x k p t bs)) (mask-raised low c long under (29 - k) h (k + 1) (p + cells k) (omega arith))
-      ∙ map-masked k p t bs g (raised (29 - k) h (k + 1) (p + cells k))
+      ∙ map-swap (λ (x : List ℕ). withBlock x k p t bs) (masked low) (raised (29 - k) h (k + 1) (p + cells k)) (λ x. mask-block x k p t bs g)
 
 -- ---- two homes
 

@@ -13,7 +13,7 @@ use Rattle.home.specs.CapacitiesLaws.{cells-mono, cells-pos, class-below as cla
 use Rattle.home.specs.Zones.{Block, Zone, blocks, added, endOf, shift, place}
 use Rattle.home.specs.PermLaws.{plength}
 use Rattle.home.specs.Layout.{Sits, Fit, Valid}
-use Rattle.home.specs.Cases.{Holds, isSome}
+use Rattle.home.specs.Cases.{Holds, isSome, map-twice}
 use Rattle.home.specs.FindLaws.{Lacks, lacks-has}
 use Rattle.home.specs.PlaceLaws.{place-valid}
 use Rattle.home.specs.Bytes.{encode, decode, firstAt, manyAt, blockBytes, endAt}
@@ -24,7 +24,7 @@ use Rattle.moves.specs.Stored.{Stored, endAfter, settled}
 use Rattle.moves.specs.LooseLaws.{stored-long, fit-lower, fit-above, blocks-append, loose-joined, Shifted, shift-fit}
 use Rattle.moves.specs.AtLaws.{at-zone, take-here, joined, long-next}
 use Rattle.seats.specs.Seat.{cellFor, endFrom, raised, seated, Stacked}
-use Rattle.seats.specs.LayoutLaws.{map-twice, end-here, loose-next, end-passed, raised-layout, stored-ends, stacked-stored}
+use Rattle.seats.specs.LayoutLaws.{end-here, loose-next, end-passed, raised-layout, stored-ends, stacked-stored}
 use Rattle.zones.specs.SoundLaws.{sound-valid, valid-loose, sound-stored, sound-tags}
 use Rattle.zones.specs.Place.{blockOf, withBlock, blockIn, placedFrom, From, placedIn, Placeable}
 use Rattle.zones.specs.PlaceLaws.{end-added, puts-at, Fitting, fitting-under, fitting-sits, fitting-fits, fitting-bytes}
