@@ -7,6 +7,7 @@ use native.Mathlib.Omega.{arith}
 use lib.ListN.{replicate, length-replicate}
 use Rattle.wire.specs.Bytes.{pick, part, over, get16, get32, bytes16, bytes32, equal, blank}
 use Rattle.wire.specs.Cases.{by-test}
+use Rattle.wire.specs.Rules.{first, answered, left}
 use Rattle.records.specs.declared.Record.{Record}
 use Rattle.records.specs.Records.{key, look, insert, remove, risingFrom, bytesOf, recordAt, records}
 use Rattle.redo.specs.Store.{apply, run}
@@ -15,24 +16,24 @@ use Rattle.redo.specs.Entry.{Entry, entry, entries, rising, changes, logged, re
 use Rattle.redo.specs.Stores.{clearMark, recoverStores, logStores, commitStores}
 use Rattle.log.specs.declared.Outcome.{Outcome}
 use Rattle.log.specs.declared.Outcome.the-variants.{Done, Cut, Refused as CommitRefused}
-use Rattle.log.specs.Head.{headOf}
-use Rattle.log.specs.Calls.{Plan, answer, after, formatPlan, logOk, committedPlan, recoverPlan, changed, clearPlan, commitPlan}
+use Rattle.log.specs.Calls.{Plan, answer, after, formatRules, formatPlan, logOk, recoverRules, recoverPlan, changed, commitRules, commitPlan}
 use Rattle.log.specs.FormatLaws.{format-done}
 use Rattle.home.specs.Capacities.{capacity, cells, classOf}
 use Rattle.home.specs.Zones.{find, blocks, hasTag, rewritten, place, takeOut, settle, change}
+use Rattle.home.specs.Sizes.{totalAfter}
 use Rattle.home.specs.Valid.{valid}
 use Rattle.home.specs.Bytes.{Spot, spots, encode, decode, zonesFrom}
 use Rattle.home.specs.Sound.{sound, sized, listOf}
 use Rattle.home.specs.Edits.{put, delete, dropTag}
-use Rattle.edits.specs.declared.Answer.{Answer}
-use Rattle.edits.specs.declared.Answer.the-variants.{Count, Refused}
-use Rattle.edits.specs.Edits.{told}
-use Rattle.gates.specs.Gates.{byHead, imageGate, spaceGate, gatedAnswer, gatedBytes}
-use Rattle.reads.specs.Reads.{counted, countImage}
+use Rattle.home.specs.declared.Answer.{Answer}
+use Rattle.home.specs.declared.Answer.the-variants.{Count, Refused}
+use Rattle.moves.specs.Stored.{settled}
+use Rattle.gates.specs.declared.Of.the-variants.{Image}
+use Rattle.gates.specs.Gates.{gateRules, homeIn}
+use Rattle.reads.specs.Reads.{countIn}
 use Rattle.index.specs.declared.Begun.{Begun}
-use Rattle.index.specs.declared.Begun.the-variants.{Done as BeginDone}
-use Rattle.index.specs.Begin.{begun, spaceAfter, beginAnswer, beginSpace}
-use Rattle.index.specs.Edits.{putAnswer, putSpace, deleteAnswer, deleteSpace, dropAnswer, dropSpace}
+use Rattle.index.specs.declared.Begun.the-variants.{Done as BeginDone, Refused as BeginRefused}
+use Rattle.index.specs.Calls.{beginCall, putCall, deleteCall, dropCall}
 
 -- ---- what a row says
 
@@ -110,24 +111,24 @@ which h w x = pick (equal x h) old (pick (equal x w) new neither)
 
 -- a commit's answer, and what is seen in the image l afterwards: which home, h or w, and how many records tag t has
 unfoldable pub seen : Outcome → List ℕ → List ℕ → ℕ → List ℕ → Result
-seen a h w t l = recovered a (which h w (home l)) (countImage l t)
+seen a h w t l = recovered a (which h w (home l)) (countIn Image l t)
 
 -- the state after a call; `fresh` gives the image that a format leaves. Each commit is tried on the same image
 unfoldable pub next : (ℕ → List ℕ) → Call → State → State
-next fresh (starting L) s = let l : List ℕ = fresh L in record { image = l; space = beginSpace l lent }
-next fresh (putting t n) s = record { image = s .image; space = putSpace (s .space) t (of n) }
-next fresh (deleting t n) s = record { image = s .image; space = deleteSpace (s .space) t (key (of n)) }
-next fresh (dropping t) s = record { image = s .image; space = dropSpace (s .space) t }
+next fresh (starting L) s = let l : List ℕ = fresh L in record { image = l; space = left (beginCall l lent) lent }
+next fresh (putting t n) s = record { image = s .image; space = left (putCall (s .space) t (of n)) (s .space) }
+next fresh (deleting t n) s = record { image = s .image; space = left (deleteCall (s .space) t (key (of n))) (s .space) }
+next fresh (dropping t) s = record { image = s .image; space = left (dropCall (s .space) t) (s .space) }
 next fresh comparing s = s
 next fresh (committing n) s = s
 next fresh (recovering n t) s = s
 
 -- what a call gives, by the states before and after it
 unfoldable pub result : Call → State → State → Result
-result (starting L) s s' = began (beginAnswer (s' .image) lent) (laid (s' .space))
-result (putting t n) s s' = edited (putAnswer (s .space) t (of n)) (laid (s' .space))
-result (deleting t n) s s' = edited (deleteAnswer (s .space) t (key (of n))) (laid (s' .space))
-result (dropping t) s s' = edited (dropAnswer (s .space) t) (laid (s' .space))
+result (starting L) s s' = began (answered BeginRefused (beginCall (s' .image) lent)) (laid (s' .space))
+result (putting t n) s s' = edited (answered Refused (putCall (s .space) t (of n))) (laid (s' .space))
+result (deleting t n) s s' = edited (answered Refused (deleteCall (s .space) t (key (of n)))) (laid (s' .space))
+result (dropping t) s s' = edited (answered Refused (dropCall (s .space) t)) (laid (s' .space))
 result comparing s s' = differ (map (λ (e : Entry). e .page) (changed (s .image) (s .space)))
 result (committing n) s s' = committed (answer (commitPlan sound (s .image) (s .space)) n)
 result (recovering n t) s s' =
@@ -210,14 +211,14 @@ unfolding fresh quick used
 formats L t = rw t (format-done (used L) L 2 t (length-replicate (imageLength L 2) 255) (imageLength L 2 + 1) (omega arith))
 
 refuses : (L : ℕ) → inRange L 2 ≡ false → fresh L ≡ quick L
-unfolding fresh quick formatPlan after
+unfolding fresh quick first formatRules formatPlan after
 refuses L t = rw t
 
 formatted : (L : ℕ) → fresh L ≡ quick L
 formatted L = by-test (inRange L 2) (formats L) (refuses L)
 
 computed : follow quick expected nothing ≡ expected
-unfolding expected follow next result laid which mended seen quick used lent of putAnswer putSpace deleteAnswer deleteSpace dropAnswer dropSpace counted countImage begun spaceAfter beginAnswer beginSpace byHead imageGate spaceGate gatedAnswer gatedBytes told letters home inRange headOk headOf entry entries rising changes logged replay answer after headPage emptyImage clearMark recoverStores logOk committedPlan recoverPlan logStores commitStores clearPlan commitPlan apply run sized sound listOf valid decode zonesFrom encode spots put delete dropTag change settle place takeOut rewritten hasTag find blocks classOf capacity cells key look insert remove risingFrom bytesOf recordAt records part over get16 get32 bytes16 bytes32 equal blank
+unfolding expected follow next result laid which mended seen quick used lent of putCall deleteCall dropCall countIn beginCall gateRules homeIn first letters home inRange headOk entry entries rising changes logged replay answer after headPage emptyImage clearMark recoverStores logOk recoverRules recoverPlan logStores commitStores commitRules commitPlan apply run sized sound listOf valid decode zonesFrom encode spots settled put delete dropTag totalAfter change settle place takeOut rewritten hasTag find blocks classOf capacity cells key look insert remove risingFrom bytesOf recordAt records part over get16 get32 bytes16 bytes32 equal blank
 computed = refl
 
 pub cases : table ≡ expected

@@ -1,7 +1,8 @@
 // Runs the specification's bench cases 1 to 12 on the calls of the index and prints what is seen: answers,
 // each block's cell and class as dictionary and zones have them, pages that differ, stores, and which home a
 // recovery finds.
-use edits::Answer;
+use gates::Of;
+use home::Answer;
 use index::Begun;
 use log::Outcome;
 use records::Record;
@@ -48,7 +49,7 @@ fn outcome(o: Outcome) {
 fn begun(b: Begun) {
     match b {
         Begun::Done => word(b"done"),
-        Begun::Unbegun(n) => refused(n),
+        Begun::Refused(n) => refused(n),
     }
 }
 
@@ -238,7 +239,7 @@ fn recover(image: &mut [u8], old: &[u8], new: &[u8], tag: u32) {
     word(b"; ");
     tag_number(tag);
     word(b" has ");
-    answer(reads::count_image(image, tag));
+    answer(reads::count(Of::Image, image, tag));
 }
 
 fn load(to: &mut [u8], from: &[u8]) {

@@ -9,10 +9,10 @@ use Rattle.records.specs.declared.Record.{Record}
 use Rattle.log.specs.declared.Outcome.{Outcome}
 use Rattle.log.specs.declared.Outcome.the-variants.{Done, Cut, Refused}
 use Rattle.log.specs.Calls.{Plan, refuse, store, answer}
-use Rattle.edits.specs.declared.Answer.{Answer}
-use Rattle.edits.specs.declared.Answer.the-variants.{Count, Refused as Unedited}
+use Rattle.home.specs.declared.Answer.{Answer}
+use Rattle.home.specs.declared.Answer.the-variants.{Count, Refused as NotEdited}
 use Rattle.index.specs.declared.Begun.{Begun}
-use Rattle.index.specs.declared.Begun.the-variants.{Done as Begin, Unbegun}
+use Rattle.index.specs.declared.Begun.the-variants.{Done as Copied, Refused as NotBegun}
 
 -- 1 and 2 in the upper half
 abbrev pub cut : ℕ → ℕ
@@ -23,11 +23,11 @@ refused r = 8589934592 + r
 
 unfoldable pub ofAnswer : Answer → ℕ
 ofAnswer (Count n) = n
-ofAnswer (Unedited r) = refused r
+ofAnswer (NotEdited r) = refused r
 
 unfoldable pub ofBegun : Begun → ℕ
-ofBegun Begin = 0
-ofBegun (Unbegun r) = refused r
+ofBegun Copied = 0
+ofBegun (NotBegun r) = refused r
 
 unfoldable pub ofOutcome : Outcome → ℕ
 ofOutcome (Done n) = n

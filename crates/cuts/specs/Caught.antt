@@ -5,15 +5,15 @@ use Prim.Native.Nat.{ℕ, _*_}
 use mathlib.Core.List.{List, [], _∷_, map}
 use lib.ListN.{set, getD, replicate}
 use Rattle.wire.specs.Bytes.{over, equal, part, get16, bytes16, blank}
+use Rattle.wire.specs.Rules.{first}
 use Rattle.redo.specs.Store.{apply, run, halfway}
 use Rattle.redo.specs.Image.{letters, mark, home, inRange, headOk, headPage, emptyImage}
 use Rattle.redo.specs.Entry.{entry, entries, rising, changes, logged, replay}
 use Rattle.redo.specs.Stores.{clearMark, recoverStores, logStores, commitStores}
 use Rattle.log.specs.declared.Outcome.{Outcome}
 use Rattle.log.specs.declared.Outcome.the-variants.{Done, Cut, Refused}
-use Rattle.log.specs.Head.{headOf}
-use Rattle.log.specs.Calls.{answer, after, logOk, committedPlan, recoverPlan, clearPlan, commitPlan, anyBytes}
-use Rattle.log.specs.Book.{Call, commit, recover, allowance, value, planOf, rest, caught, Seen, seen, trace, final, Book, start, differing, judgeBy, judge, commitNeed, needBy, recoverNeed, report, answerTo, logs, toldMark, recovering, committing, bookAt, foretold, next, bookAfter}
+use Rattle.log.specs.Calls.{answer, after, logOk, recoverRules, recoverPlan, commitRules, commitPlan, anyBytes}
+use Rattle.log.specs.Book.{Call, commit, recover, allowance, value, planOf, rest, caught, Seen, seen, trace, final, Book, start, differing, bookRules, judge, commitNeed, needBy, recoverNeed, report, answerTo, logs, toldMark, recovering, committing, bookAt, foretold, next, bookAfter}
 
 image : List ℕ
 image = emptyImage 1 1
@@ -92,5 +92,5 @@ examples :
     × (said (commit one 133 0 ∷ clear) ≡ Cut 133 ∷ Done 134 ∷ [])
     × (said (commit one 69 1 ∷ recover 64 0 ∷ clear) ≡ Cut 69 ∷ Cut 64 ∷ Done 134 ∷ [])
     × (said (commit one 68 9 ∷ recover 0 0 ∷ commit one 134 0 ∷ []) ≡ Cut 68 ∷ Cut 0 ∷ Done 134 ∷ [])
-unfolding clear ends said book found set165 set9 set0 through9 home77 last9 image one answer after apply run letters home inRange headOk headOf entry entries rising changes logged replay headPage emptyImage clearMark recoverStores logOk committedPlan recoverPlan logStores commitStores clearPlan commitPlan over equal part get16 bytes16 blank halfway allowance value planOf rest caught seen trace final start differing judgeBy judge commitNeed needBy recoverNeed report answerTo logs toldMark recovering committing bookAt foretold next bookAfter
+unfolding clear ends said book found set165 set9 set0 through9 home77 last9 image one first answer after apply run letters home inRange headOk entry entries rising changes logged replay headPage emptyImage clearMark recoverStores logOk recoverRules recoverPlan logStores commitStores commitRules commitPlan over equal part get16 bytes16 blank halfway allowance value planOf rest caught seen trace final start differing bookRules judge commitNeed needBy recoverNeed report answerTo logs toldMark recovering committing bookAt foretold next bookAfter
 examples = (refl, refl, refl, refl, refl, refl, refl, refl, refl, refl, refl, refl, refl, refl, refl, refl, refl, refl, refl, refl, refl, refl, refl, refl, refl, refl)

@@ -1,50 +1,52 @@
 -- What the edits answer and leave, case by case.
 use mathlib.Core.Path.{_≡_, refl, sym, ap, ap₂, _∙_}
-use mathlib.Core.Bool.{true, false}
+use mathlib.Core.Bool.{Bool, true, false, not, _&&_}
 use mathlib.Core.Logic.{_≢_}
 use mathlib.Core.Option.{Option, none, some}
 use mathlib.Core.List.{List, [], _∷_, append-nil}
-use Prim.Native.Nat.{ℕ, suc, _+_, _-_, _*_, _/_, _≤_, _<_}
+use Prim.Native.Nat.{ℕ, _+_, _-_, _*_, _/_, _≤_, _<_}
 use native.Mathlib.Omega.{arith}
-use lib.Dec.{leb, ltb}
+use lib.Dec.{leb}
 use lib.ListN.{length}
-use borrow.Author.Tests.{lt-ltb, le-ltb, lt-leb, le-leb}
-use Rattle.wire.specs.Bytes.{get16}
+use borrow.Author.Tests.{lt-leb, le-leb}
+use Rattle.wire.specs.Bytes.{pick, get16, isSome}
+use Rattle.wire.specs.Rules.{first, refusal, Ruled, answered, left}
+use Rattle.wire.specs.RulesLaws.{is-refused, is-done}
 use Rattle.wire.specs.BytesLaws.{over-whole}
-use Rattle.wire.specs.Cases.{by-test, by-lt, never}
+use Rattle.wire.specs.Cases.{by-test, never, leb-iff, not-leb}
 use Rattle.wire.specs.All.{more, none as nothing}
 use Rattle.records.specs.declared.Record.{Record}
 use Rattle.records.specs.declared.Place.the-variants.{Found, Absent}
-use Rattle.records.specs.Records.{Fits, key, risingFrom, rising, look, held, rank, place as placeOf, insert, remove, amend, up, inserted, bytesOf, encode as recordBytes, decode as recordsIn}
+use Rattle.records.specs.Records.{Fits, key, risingFrom, rising, look, held, rank, place as placeOf, insert, amend, up, inserted, bytesOf, encode as recordBytes, decode as recordsIn}
 use Rattle.records.specs.Moves.{length-up}
 use Rattle.records.specs.Cells.{length-bytesOf}
 use Rattle.records.specs.Edits.{length-encode, decode-encode}
-use Rattle.home.specs.Cases.{isSome, some-is}
-use Rattle.home.specs.declared.lookup.Slot.the-variants.{Absent as AbsentTag}
+use Rattle.home.specs.declared.lookup.TagBlock.the-variants.{Unknown}
 use Rattle.home.specs.Capacities.{cells, classOf}
 use Rattle.home.specs.Zones.{Zone, blocks, hasTag, find, total, change as changeBy}
-use Rattle.home.specs.Layout.{change}
+use Rattle.home.specs.Layout.{change, totalAfter}
 use Rattle.home.specs.Sizes.{blockSize, totalAfter as totalAfterBy}
 use Rattle.home.specs.AfreshLaws.{size-some}
-use Rattle.home.specs.Edits.{edited, put, delete, setMinutes, dropTag}
-use Rattle.home.specs.EditsLaws.{length-amend, shorter, exactly, had-size, total-low, empty-unknown}
+use Rattle.home.specs.Edits.{Edit, recordRules, put, delete, setMinutes, dropTag}
+use Rattle.home.specs.EditsLaws.{length-amend, exactly, had-size, total-low, empty-unknown}
 use Rattle.home.specs.HomeLaws.{all-mem}
-use Rattle.home.specs.Bytes.{encode, decode}
+use Rattle.home.specs.Bytes.{decode}
 use Rattle.home.specs.Sound.{sound, pagesOf, listOf}
-use Rattle.home.specs.SoundLaws.{encode-decode}
-use Rattle.home.specs.Lookup.{slotOf}
-use Rattle.home.specs.LookupTurns.{list-none}
+use Rattle.home.specs.Lookup.{blockOf}
+use Rattle.home.specs.TagBlockLaws.{list-none}
 use Rattle.home.specs.FindLaws.{find-none, lacks-has}
-use Rattle.edits.specs.declared.Answer.the-variants.{Count, Refused}
+use Rattle.home.specs.declared.Answer.{Answer}
+use Rattle.home.specs.declared.Answer.the-variants.{Count, Refused}
+use Rattle.home.specs.Valid.{Proper}
 use Rattle.moves.specs.Stored.{settled}
 use Rattle.zones.specs.SoundLaws.{sound-valid, sound-tags}
 use Rattle.zones.specs.Place.{Placeable}
 use Rattle.zones.specs.Afresh.{settledIn}
 use Rattle.lists.specs.Lists.{setHere}
 use Rattle.lists.specs.ListedLaws.{listed-has, listed-lying, listed-many}
-use Rattle.lists.specs.RecordLaws.{without-is, left-many, out-room, new-many, new-proper, set-changed}
+use Rattle.lists.specs.RecordLaws.{without-is, left-many, new-many, new-proper, set-changed}
 use Rattle.lists.specs.Listed.{changed, without, Listed, Placed, Ranked}
-use Rattle.edits.specs.Edits.{told, putIn, deleteIn, setIn, dropIn, leaves, fitsAfter}
+use Rattle.edits.specs.Edits.{edited, putIn, deleteIn, setIn, dropIn, fitsAfter}
 
 -- ---- what a search finds
 
@@ -67,104 +69,82 @@ rising-one : (r : Record) → rising (r ∷ []) ≡ true
 unfolding risingFrom
 rising-one r = rw (le-leb 0 (key r) (omega arith))
 
--- ---- with room, or none
+-- ---- refused, or not
 
-edited-some : (R : ℕ) (h : List ℕ) (m : ℕ) (zs : List Zone) (o : Option (List Zone)) → isSome o ≡ true → (Count m ≡ told (edited m zs o .answer)) × (settled R h o ≡ encode R (edited m zs o .layout))
-unfolding edited settled told isSome
-edited-some R h m zs none i = never i
-edited-some R h m zs (some zs') i = (refl, refl)
+-- what is answered to an edit and what it leaves
+abbrev Ends : List ℕ → Ruled Answer → Answer → List ℕ → Type 0
+Ends h c a bs = (a ≡ answered Refused c) × (bs ≡ left c h)
 
-edited-none : (R : ℕ) (h : List ℕ) (m : ℕ) (zs : List Zone) (o : Option (List Zone)) → h ≡ encode R zs → isSome o ≡ false → (Refused 12 ≡ told (edited m zs o .answer)) × (h ≡ encode R (edited m zs o .layout))
-unfolding edited told isSome
-edited-none R h m zs none e i = (refl, e)
-edited-none R h m zs (some zs') e i = never (sym i)
+refuses : (h : List ℕ) (t : ℕ) (e : Edit) (n : ℕ) → refusal (e .rules) ≡ some n → Ends h (edited h t e) (Refused n) h
+refuses h t e n q = is-refused Refused (edited h t e) h n q
 
-settled-none : (R : ℕ) (h : List ℕ) (o : Option (List Zone)) → isSome o ≡ false → settled R h o ≡ h
-unfolding settled isSome
-settled-none R h none i = refl
-settled-none R h (some zs) i = never (sym i)
+makes : (h : List ℕ) (t : ℕ) (e : Edit) (m : ℕ) (rs : List Record) → refusal (e .rules) ≡ none → e .list ≡ rs → m ≡ length rs → Ends h (edited h t e) (Count m) (changed h t rs)
+makes h t e m rs q f g = let d = is-done Refused (edited h t e) h q in (ap Count (g ∙ ap length (sym f)) ∙ d .0, ap (changed h t) (sym f) ∙ d .1)
 
-pub drop-some : (area t : ℕ) (zs : List Zone) → isSome (change area t [] zs) ≡ true
-unfolding changeBy isSome
-drop-some area t zs = refl
+listed-nine : (t k : ℕ) (zs : List Zone) → held (look k (find t (blocks zs))) ≡ true → refusal (recordRules t k zs) ≡ none
+unfolding first
+listed-nine t k zs e = rw e
+
+no-such : (t k : ℕ) (zs : List Zone) → held (look k (find t (blocks zs))) ≡ false → refusal (recordRules t k zs) ≡ some 9
+unfolding first
+no-such t k zs e = rw e
+
+-- no such record, of a tag with a list or of an unknown one
+module _ (h : List ℕ) (t k : ℕ) (none-listed : held (look k (listOf h t)) ≡ false) where
+  pub delete-none : Ends h (deleteIn h t k) (Refused 9) h
+  unfolding delete listOf
+  delete-none = refuses h t (delete t k (decode h)) 9 (no-such t k (decode h) none-listed)
+
+  pub set-none : (m : ℕ) → Ends h (setIn h t k m) (Refused 9) h
+  unfolding setMinutes listOf
+  set-none m = refuses h t (setMinutes t k m (decode h)) 9 (no-such t k (decode h) none-listed)
 
 -- ---- of a tag with a list
 
 module _ (h : List ℕ) (t p n : ℕ) (l : Listed h t p n) where
-  abbrev R : ℕ
-  R = pagesOf h
+  pub put-held : (r : Record) → held (look (key r) (listOf h t)) ≡ true → Ends h (putIn h t r) (Refused 8) h
+  unfolding put listOf first
+  put-held r e = refuses h t (put (8 * pagesOf h) t r (decode h)) 8 (rw e)
 
-  abbrev zs : List Zone
-  zs = decode h
+  pub drop-done : Ends h (dropIn h t) (Count 0) (changed h t [])
+  unfolding dropTag first
+  drop-done = makes h t (dropTag t (decode h)) 0 [] (rw (listed-has h t p n l)) refl refl
 
-  as-is : h ≡ encode R zs
-  as-is = sym (encode-decode h (l .sound))
-
-  pub delete-none : (k : ℕ) → held (look k (listOf h t)) ≡ false → (Refused 9 ≡ told (deleteIn h t k .answer)) × (h ≡ leaves h (deleteIn h t k))
-  unfolding delete listOf told
-  delete-none k e = rw e (refl, as-is)
-
-  pub set-none : (k m : ℕ) → held (look k (listOf h t)) ≡ false → (Refused 9 ≡ told (setIn h t k m .answer)) × (h ≡ leaves h (setIn h t k m))
-  unfolding setMinutes listOf told
-  set-none k m e = rw e (refl, as-is)
-
-  pub put-held : (r : Record) → held (look (key r) (listOf h t)) ≡ true → (Refused 8 ≡ told (putIn h t r .answer)) × (h ≡ leaves h (putIn h t r))
-  unfolding put listOf told
-  put-held r e = rw e (refl, as-is)
-
-  pub drop-done : (Count 0 ≡ told (dropIn h t .answer)) × (changed h t [] ≡ leaves h (dropIn h t))
-  unfolding dropTag
-  drop-done = rw (listed-has h t p n l) (edited-some R h 0 zs (change (8 * R) t [] zs) (drop-some (8 * R) t zs))
-
-pub delete-done : (h : List ℕ) (t p n j : ℕ) (k : Ranked h t p n j) → (Count (n - 1) ≡ told (deleteIn h t (k .key) .answer)) × (changed h t (without j (listOf h t)) ≡ leaves h (deleteIn h t (k .key)))
+pub delete-done : (h : List ℕ) (t p n j : ℕ) (k : Ranked h t p n j) → Ends h (deleteIn h t (k .key)) (Count (n - 1)) (changed h t (without j (listOf h t)))
 unfolding delete listOf
-delete-done h t p n j k =
-    let rs : List Record = remove (k .key) (find t (blocks (decode h))) in
-    let q : rs ≡ without j (listOf h t) = without-is h t p n j k in
-    let e : n - 1 ≡ length rs = omega (arith, left-many h t p n j k, ap length q) in
-    rw (k .held, e, ← q) (edited-some (pagesOf h) h (length rs) (decode h) (change (8 * pagesOf h) t rs (decode h)) (ap (λ (l : List Record). isSome (change (8 * pagesOf h) t l (decode h))) q ∙ out-room h t p n j k))
+delete-done h t p n j k = makes h t (delete t (k .key) (decode h)) (n - 1) (without j (listOf h t)) (listed-nine t (k .key) (decode h) (k .held)) (without-is h t p n j k) (omega (arith, left-many h t p n j k))
 
-pub set-done : (h : List ℕ) (t p n j m : ℕ) (k : Ranked h t p n j) → m < 256 → (Count n ≡ told (setIn h t (k .key) m .answer)) × (setHere h p n j m ≡ leaves h (setIn h t (k .key) m))
+pub set-done : (h : List ℕ) (t p n j m : ℕ) (k : Ranked h t p n j) → m < 256 → Ends h (setIn h t (k .key) m) (Count n) (setHere h p n j m)
 unfolding setMinutes listOf
 set-done h t p n j m k g =
     let rs : List Record = find t (blocks (decode h)) in
-    let o : Option (List Zone) = change (8 * pagesOf h) t (amend (k .key) m rs) (decode h) in
-    let i : isSome o ≡ true = some-is o (shorter (8 * pagesOf h) t (decode h) (sound-valid h (k .listed .sound)) (listed-lying h t p n (k .listed) .sits .tag) (amend (k .key) m rs)
-    (listed-has h t p n (k .listed)) (omega (arith, length-amend (k .key) m rs))) in
-    rw (k .held, ← listed-many h t p n (k .listed), set-changed h t p n j m k g) (edited-some (pagesOf h) h n (decode h) o i)
+    let d = makes h t (setMinutes t (k .key) m (decode h)) n (amend (k .key) m rs) (listed-nine t (k .key) (decode h) (k .held)) refl (listed-many h t p n (k .listed) ∙ sym (length-amend (k .key) m rs)) in
+    (d .0, set-changed h t p n j m k g ∙ d .1)
 
 -- ---- a record put to a tag with a list
 
-leb-less : (a x y b : ℕ) → x ≤ a → leb (a - x + y) b ≡ leb (a + y) (b + x)
-leb-less a x y b g =
-    by-lt (b + x) (a + y) (λ o. lt-leb (a - x + y) b (omega arith) ∙ sym (lt-leb (a + y) (b + x) o)) (λ o. le-leb (a - x + y) b (omega arith) ∙ sym (le-leb (a + y) (b + x) o))
+-- where 8, 10 and 11 do not apply, it depends on 12
+last : (area t : ℕ) (r : Record) (zs : List Zone) → held (look (key r) (find t (blocks zs))) ≡ false → length (find t (blocks zs)) < 989
+    → not (hasTag t (blocks zs)) && leb 256 (length (blocks zs)) ≡ false → (b : Bool) → leb (totalAfter t (insert r (find t (blocks zs))) zs) area ≡ b
+    → refusal (put area t r zs .rules) ≡ pick {A = Option ℕ} b none (some 12)
+unfolding put first
+last area t r zs h g f b e =
+    let rs : List Record = find t (blocks zs) in
+    rw (h, lt-leb 989 (length rs) g, f, sym (not-leb (totalAfter t (insert r rs) zs) area) ∙ ap not e) (flip b)
+  where
+    flip : (b : Bool) → pick {A = Option ℕ} (not b) (some 12) none ≡ pick {A = Option ℕ} b none (some 12)
+    flip true = refl
+    flip false = refl
 
 module _ (h : List ℕ) (t p n j : ℕ) (r : Record) (k : Placed h t p n j r) where
   abbrev new : List Record
   new = insert r (listOf h t)
 
-  pub put-full : n ≡ 989 → (Refused 10 ≡ told (putIn h t r .answer)) × (h ≡ leaves h (putIn h t r))
-  unfolding put listOf told
+  pub put-full : n ≡ 989 → Ends h (putIn h t r) (Refused 10) h
+  unfolding put listOf first
   put-full e =
-      let rs : List Record = find t (blocks (decode h)) in
-      let g : ltb (length rs) 989 ≡ false = le-ltb (length rs) 989 (omega (arith, listed-many h t p n (k .listed))) in
-      rw (k .held, g) (refl, sym (encode-decode h (k .listed .sound)))
-
-  module _ (short : n < 989) where
-    put-edited : putIn h t r ≡ edited (n + 1) (decode h) (change (8 * pagesOf h) t new (decode h))
-    unfolding put listOf
-    put-edited =
-        let rs : List Record = find t (blocks (decode h)) in
-        let m : n ≡ length rs = listed-many h t p n (k .listed) in
-        let g : ltb (length rs) 989 ≡ true = lt-ltb (length rs) 989 (omega arith) in
-        let e : n + 1 ≡ suc (length rs) = omega arith in
-        rw (k .held, g, listed-has h t p n (k .listed), e)
-
-    pub put-done : isSome (change (8 * pagesOf h) t new (decode h)) ≡ true → (Count (n + 1) ≡ told (putIn h t r .answer)) × (changed h t new ≡ leaves h (putIn h t r))
-    put-done i = rw put-edited (edited-some (pagesOf h) h (n + 1) (decode h) (change (8 * pagesOf h) t new (decode h)) i)
-
-    pub put-no-room : isSome (change (8 * pagesOf h) t new (decode h)) ≡ false → (Refused 12 ≡ told (putIn h t r .answer)) × (h ≡ leaves h (putIn h t r))
-    put-no-room i = rw put-edited (edited-none (pagesOf h) h (n + 1) (decode h) (change (8 * pagesOf h) t new (decode h)) (sym (encode-decode h (k .listed .sound))) i)
+      let g : leb 989 (length (find t (blocks (decode h)))) ≡ true = le-leb 989 (length (find t (blocks (decode h)))) (omega (arith, listed-many h t p n (k .listed))) in
+      refuses h t (put (8 * pagesOf h) t r (decode h)) 10 (rw (k .held, g))
 
   old-size : blockSize cells classOf (listOf h t) ≡ cells (classOf n)
   unfolding listOf
@@ -184,58 +164,79 @@ module _ (h : List ℕ) (t p n j : ℕ) (r : Record) (k : Placed h t p n j r) wh
 
   module _ (short : n < 989) where
     -- whether there is room is known by the sizes of all blocks
-    pub put-room : fitsAfter h (classOf n) (classOf (n + 1)) ≡ isSome (change (8 * pagesOf h) t new (decode h))
+    fits-total : fitsAfter h (classOf n) (classOf (n + 1)) ≡ leb (totalAfter t new (decode h)) (8 * pagesOf h)
     unfolding listOf totalAfterBy
-    put-room =
+    fits-total =
         let m : length new ≡ n + 1 = new-many h t p n j r k in
         let b : blockSize cells classOf new ≡ cells (classOf (n + 1)) = size-some cells classOf new (omega (arith, m)) ∙ ap (λ (d : ℕ). cells (classOf d)) m in
-        sym (exactly (8 * pagesOf h) t (decode h) (sound-valid h (k .listed .sound)) (listed-lying h t p n (k .listed) .sits .tag) new (new-proper h t p n j r k short)
-        ∙ ap₂ (λ (x y : ℕ). leb (total cells 0 (decode h) - x + y) (8 * pagesOf h)) old-size b
-        ∙ leb-less (total cells 0 (decode h)) (cells (classOf n)) (cells (classOf (n + 1))) (8 * pagesOf h) old-least)
+        sym (ap₂ (λ (x y : ℕ). leb (total cells 0 (decode h) - x + y) (8 * pagesOf h)) old-size b
+        ∙ leb-iff (total cells 0 (decode h) - cells (classOf n) + cells (classOf (n + 1))) (8 * pagesOf h) (total cells 0 (decode h) + cells (classOf (n + 1))) (8 * pagesOf h + cells (classOf n))
+        (λ g. omega (arith, old-least)) (λ g. omega (arith, old-least)))
+
+    pub put-room : fitsAfter h (classOf n) (classOf (n + 1)) ≡ isSome (change (8 * pagesOf h) t new (decode h))
+    put-room = fits-total ∙ sym (exactly (8 * pagesOf h) t (decode h) (sound-valid h (k .listed .sound)) (listed-lying h t p n (k .listed) .sits .tag) new (new-proper h t p n j r k short))
 
     -- and there is where the class stays
-    pub put-keeps : classOf (n + 1) ≡ classOf n → isSome (change (8 * pagesOf h) t new (decode h)) ≡ true
+    pub put-keeps : classOf (n + 1) ≡ classOf n → fitsAfter h (classOf n) (classOf (n + 1)) ≡ true
     put-keeps e =
-        sym put-room ∙ ap (fitsAfter h (classOf n)) e
+        ap (fitsAfter h (classOf n)) e
         ∙ le-leb (total cells 0 (decode h) + cells (classOf n)) (8 * pagesOf h + cells (classOf n)) (omega (arith, total-low (8 * pagesOf h) (decode h) (sound-valid h (k .listed .sound))))
 
+    put-last : (b : Bool) → fitsAfter h (classOf n) (classOf (n + 1)) ≡ b → refusal (put (8 * pagesOf h) t r (decode h) .rules) ≡ pick {A = Option ℕ} b none (some 12)
+    unfolding listOf
+    put-last b q =
+        let many : n ≡ length (find t (blocks (decode h))) = listed-many h t p n (k .listed) in
+        last (8 * pagesOf h) t r (decode h) (k .held) (omega arith) (rw (listed-has h t p n (k .listed)) refl) b (sym fits-total ∙ q)
+
+    pub put-done : fitsAfter h (classOf n) (classOf (n + 1)) ≡ true → Ends h (putIn h t r) (Count (n + 1)) (changed h t new)
+    unfolding put listOf
+    put-done i = makes h t (put (8 * pagesOf h) t r (decode h)) (n + 1) new (put-last true i) refl (sym (new-many h t p n j r k))
+
+    pub put-no-room : fitsAfter h (classOf n) (classOf (n + 1)) ≡ false → Ends h (putIn h t r) (Refused 12) h
+    put-no-room i = refuses h t (put (8 * pagesOf h) t r (decode h)) 12 (put-last false i)
+
 -- ---- of an unknown tag
+
+settled-none : (R : ℕ) (h : List ℕ) (o : Option (List Zone)) → isSome o ≡ false → settled R h o ≡ h
+unfolding settled
+settled-none R h none i = refl
+settled-none R h (some zs) i = never (sym i)
 
 -- its list of one
 pub inserted-alone : (l : List ℕ) (r : Record) → length l ≡ 8 → inserted l 0 r ≡ recordBytes (r ∷ [])
 unfolding inserted recordBytes
 inserted-alone l r e = over-whole (up l (8 * 0)) (bytesOf r) (length-bytesOf r ∙ sym (length-up l (8 * 0) ∙ e)) ∙ sym (append-nil (bytesOf r))
 
-pub absent-new : (h : List ℕ) (t i : ℕ) → sound h ≡ true → slotOf h t ≡ AbsentTag i → hasTag t (blocks (decode h)) ≡ false
+pub absent-new : (h : List ℕ) (t : ℕ) → sound h ≡ true → blockOf h t ≡ Unknown → hasTag t (blocks (decode h)) ≡ false
 unfolding listOf
-absent-new h t i s e = empty-unknown (8 * pagesOf h) t (decode h) (sound-valid h s) (list-none h t i s e)
+absent-new h t s e = empty-unknown (8 * pagesOf h) t (decode h) (sound-valid h s) (list-none h t s e)
 
 module _ (h : List ℕ) (t : ℕ) (s : sound h ≡ true) (no : hasTag t (blocks (decode h)) ≡ false) where
   nothing-found : find t (blocks (decode h)) ≡ []
   nothing-found = find-none t (blocks (decode h)) (lacks-has t (blocks (decode h)) no)
 
-  stays : h ≡ encode (pagesOf h) (decode h)
-  stays = sym (encode-decode h s)
+  nothing-held : (k : ℕ) → held (look k (find t (blocks (decode h)))) ≡ false
+  unfolding look
+  nothing-held k = rw nothing-found
 
-  pub delete-unknown : (k : ℕ) → (Refused 9 ≡ told (deleteIn h t k .answer)) × (h ≡ leaves h (deleteIn h t k))
-  unfolding delete told look
-  delete-unknown k = rw nothing-found (refl, stays)
+  pub unknown-held : (k : ℕ) → held (look k (listOf h t)) ≡ false
+  unfolding listOf
+  unknown-held k = nothing-held k
 
-  pub set-unknown : (k m : ℕ) → (Refused 9 ≡ told (setIn h t k m .answer)) × (h ≡ leaves h (setIn h t k m))
-  unfolding setMinutes told look
-  set-unknown k m = rw nothing-found (refl, stays)
+  pub drop-unknown : Ends h (dropIn h t) (Refused 9) h
+  unfolding dropTag first
+  drop-unknown = refuses h t (dropTag t (decode h)) 9 (rw no)
 
-  pub drop-unknown : (Refused 9 ≡ told (dropIn h t .answer)) × (h ≡ leaves h (dropIn h t))
-  unfolding dropTag told
-  drop-unknown = rw no (refl, stays)
+  nothing-listed : length (find t (blocks (decode h))) ≡ 0
+  nothing-listed = rw nothing-found
 
-  pub put-tags : (r : Record) → get16 h 0 ≡ 256 → (Refused 11 ≡ told (putIn h t r .answer)) × (h ≡ leaves h (putIn h t r))
-  unfolding put told look
+  pub put-tags : (r : Record) → get16 h 0 ≡ 256 → Ends h (putIn h t r) (Refused 11) h
+  unfolding put first
   put-tags r e =
-      let g : ltb (length (blocks (decode h))) 256 ≡ false = le-ltb (length (blocks (decode h))) 256 (omega (arith, sound-tags h s)) in
-      rw (nothing-found, no, g) (refl, stays)
+      let g : leb 256 (length (blocks (decode h))) ≡ true = le-leb 256 (length (blocks (decode h))) (omega (arith, sound-tags h s)) in
+      refuses h t (put (8 * pagesOf h) t r (decode h)) 11 (rw (nothing-held (key r), nothing-listed, no, g))
 
-  module _ (few : get16 h 0 ≢ 256) (r : Record) (fits : Fits r) (bs : List ℕ) (e : bs ≡ recordBytes (r ∷ [])) where
+  module _ (small : t < 4294967296) (few : get16 h 0 ≢ 256) (r : Record) (fits : Fits r) (bs : List ℕ) (e : bs ≡ recordBytes (r ∷ [])) where
     fewer : length (blocks (decode h)) < 256
     fewer = omega (arith, sound-tags h s, sound-valid h s .few)
 
@@ -256,14 +257,30 @@ module _ (h : List ℕ) (t : ℕ) (s : sound h ≡ true) (no : hasTag t (blocks 
       rising = rw read (rising-one r);
     }
 
-    new-edited : putIn h t r ≡ edited 1 (decode h) (settledIn h t bs)
-    unfolding put look insert changeBy
-    new-edited =
-        let g : ltb (length (blocks (decode h))) 256 ≡ true = lt-ltb (length (blocks (decode h))) 256 fewer in
-        rw (nothing-found, no, g, read, one)
+    list-is : insert r (find t (blocks (decode h))) ≡ r ∷ []
+    unfolding insert
+    list-is = rw nothing-found
 
-    pub new-done : (x : List ℕ) → isSome (settledIn h t bs) ≡ true → x ≡ settled (pagesOf h) h (settledIn h t bs) → (Count 1 ≡ told (putIn h t r .answer)) × (x ≡ leaves h (putIn h t r))
-    new-done x i y = rw (y, new-edited) (edited-some (pagesOf h) h 1 (decode h) (settledIn h t bs) i)
+    settles : change (8 * pagesOf h) t (r ∷ []) (decode h) ≡ settledIn h t bs
+    unfolding changeBy
+    settles = rw (no, read, one)
 
-    pub new-no-room : (x : List ℕ) → isSome (settledIn h t bs) ≡ false → x ≡ settled (pagesOf h) h (settledIn h t bs) → (Refused 12 ≡ told (putIn h t r .answer)) × (x ≡ leaves h (putIn h t r))
-    new-no-room x i y = rw (y, settled-none (pagesOf h) h (settledIn h t bs) i, new-edited) (edited-none (pagesOf h) h 1 (decode h) (settledIn h t bs) stays i)
+    one-listed : Proper (r ∷ [])
+    one-listed = record { rising = rising-one r; fits = more fits nothing; short = omega arith }
+
+    new-last : (b : Bool) → isSome (settledIn h t bs) ≡ b → refusal (put (8 * pagesOf h) t r (decode h) .rules) ≡ pick {A = Option ℕ} b none (some 12)
+    new-last b q =
+        let x : isSome (change (8 * pagesOf h) t (r ∷ []) (decode h)) ≡ leb (totalAfter t (r ∷ []) (decode h)) (8 * pagesOf h) = exactly (8 * pagesOf h) t (decode h) (sound-valid h s) small (r ∷ []) one-listed in
+        last (8 * pagesOf h) t r (decode h) (nothing-held (key r)) (omega (arith, nothing-listed)) (rw (no, lt-leb 256 (length (blocks (decode h))) fewer) refl) b
+        (ap (λ (l : List Record). leb (totalAfter t l (decode h)) (8 * pagesOf h)) list-is ∙ sym x ∙ ap isSome settles ∙ q)
+
+    pub new-done : (x : List ℕ) → isSome (settledIn h t bs) ≡ true → x ≡ settled (pagesOf h) h (settledIn h t bs) → Ends h (putIn h t r) (Count 1) x
+    unfolding put
+    new-done x i y =
+        let d = makes h t (put (8 * pagesOf h) t r (decode h)) 1 (r ∷ []) (new-last true i) list-is refl in
+        (d .0, y ∙ ap (settled (pagesOf h) h) (sym settles) ∙ d .1)
+
+    pub new-no-room : (x : List ℕ) → isSome (settledIn h t bs) ≡ false → x ≡ settled (pagesOf h) h (settledIn h t bs) → Ends h (putIn h t r) (Refused 12) x
+    new-no-room x i y =
+        let d = refuses h t (put (8 * pagesOf h) t r (decode h)) 12 (new-last false i) in
+        (d .0, y ∙ settled-none (pagesOf h) h (settledIn h t bs) i ∙ d .1)

@@ -1,14 +1,13 @@
 // The edits of a sound workspace, in place: put, delete, set minutes and drop.
+use home::Answer;
 use home::classes::cells;
 use home::classes::class_of;
-use home::lookup::Slot;
-use home::lookup::find;
+use home::lookup::TagBlock;
+use home::lookup::block_of;
 use lists::change::insert_moving;
 use lists::change::remove_record;
 use lists::here::insert_here;
 use lists::here::set_here;
-use lists::read::cell_of;
-use lists::read::count_of;
 use lists::read::search_at;
 use records::Place;
 use records::Record;
@@ -23,13 +22,8 @@ ghost use Rattle.home.specs.Bytes.{decode};
 ghost use Rattle.home.specs.Sound.{sound};
 ghost use Rattle.moves.specs.Stored.{Stored};
 ghost use Rattle.lists.specs.Listed.{Listed, Placed};
-ghost use Rattle.edits.specs.Edits.{told, putIn, deleteIn, setIn, dropIn, leaves, fitsAfter};
-
-// What an edit answers: the list's record count afterwards, or refused with its number.
-pub enum Answer {
-    Count(usize),
-    Refused(u8),
-}
+ghost use Rattle.wire.specs.Rules.{answered, left};
+ghost use Rattle.edits.specs.Edits.{putIn, deleteIn, setIn, dropIn, fitsAfter};
 
 // Whether all blocks fit in the area once one of class d stands for one of class c.
 fn room_after(home: &[u8], c: usize, d: usize) -> bool
@@ -43,8 +37,8 @@ fn room_after(home: &[u8], c: usize, d: usize) -> bool
 // Puts a record in at its rank among the n records of the tag's block at cell p.
 fn insert_record(home: &mut [u8], tag: u32, p: usize, n: usize, j: usize, r: Record) -> Answer
     requires { ⌜ Placed (now home) tag p n j r ⌝ }
-    ensures { λ a. ⌜ a ≡ told (putIn (now (home .entry)) tag r .answer) ⌝ }
-    ensures { λ _. ⌜ now (home .exit) ≡ leaves (now (home .entry)) (putIn (now (home .entry)) tag r) ⌝ }
+    ensures { λ a. ⌜ a ≡ answered Answer.Refused (putIn (now (home .entry)) tag r) ⌝ }
+    ensures { λ _. ⌜ now (home .exit) ≡ left (putIn (now (home .entry)) tag r) (now (home .entry)) ⌝ }
 {
     if n == 989 {
         return Answer::Refused(10);
@@ -66,8 +60,8 @@ fn insert_record(home: &mut [u8], tag: u32, p: usize, n: usize, j: usize, r: Rec
 // Puts a record to a tag that has a block of n records at cell p.
 fn put_known(home: &mut [u8], tag: u32, p: usize, n: usize, r: Record) -> Answer
     requires { ⌜ Listed (now home) tag p n ⌝ }
-    ensures { λ a. ⌜ a ≡ told (putIn (now (home .entry)) tag r .answer) ⌝ }
-    ensures { λ _. ⌜ now (home .exit) ≡ leaves (now (home .entry)) (putIn (now (home .entry)) tag r) ⌝ }
+    ensures { λ a. ⌜ a ≡ answered Answer.Refused (putIn (now (home .entry)) tag r) ⌝ }
+    ensures { λ _. ⌜ now (home .exit) ≡ left (putIn (now (home .entry)) tag r) (now (home .entry)) ⌝ }
 {
     match search_at(home, p, n, records::key_of(r)) {
         Place::Found(_) => Answer::Refused(8),
@@ -78,8 +72,8 @@ fn put_known(home: &mut [u8], tag: u32, p: usize, n: usize, r: Record) -> Answer
 // Puts a record to a tag that has none.
 fn put_new(home: &mut [u8], tag: u32, r: Record) -> Answer
     requires { ⌜ (sound (now home) ≡ true) × (hasTag tag (blocks (decode (now home))) ≡ false) ⌝ }
-    ensures { λ a. ⌜ a ≡ told (putIn (now (home .entry)) tag r .answer) ⌝ }
-    ensures { λ _. ⌜ now (home .exit) ≡ leaves (now (home .entry)) (putIn (now (home .entry)) tag r) ⌝ }
+    ensures { λ a. ⌜ a ≡ answered Answer.Refused (putIn (now (home .entry)) tag r) ⌝ }
+    ensures { λ _. ⌜ now (home .exit) ≡ left (putIn (now (home .entry)) tag r) (now (home .entry)) ⌝ }
 {
     if wire::get16(home, 0) == 256 {
         return Answer::Refused(11);
@@ -96,24 +90,20 @@ fn put_new(home: &mut [u8], tag: u32, r: Record) -> Answer
 // Puts a record to a tag's list. Refused: 8, listed already; 10, 989 records; 11, 256 tags; 12, no room.
 pub fn put(home: &mut [u8], tag: u32, r: Record) -> Answer
     requires { ⌜ sound (now home) ≡ true ⌝ }
-    ensures { λ a. ⌜ a ≡ told (putIn (now (home .entry)) tag r .answer) ⌝ }
-    ensures { λ _. ⌜ now (home .exit) ≡ leaves (now (home .entry)) (putIn (now (home .entry)) tag r) ⌝ }
+    ensures { λ a. ⌜ a ≡ answered Answer.Refused (putIn (now (home .entry)) tag r) ⌝ }
+    ensures { λ _. ⌜ now (home .exit) ≡ left (putIn (now (home .entry)) tag r) (now (home .entry)) ⌝ }
 {
-    match find(home, tag) {
-        Slot::At(i) => {
-            let p = cell_of(home, i);
-            let n = count_of(home, p);
-            put_known(home, tag, p, n, r)
-        }
-        Slot::Absent(_) => put_new(home, tag, r),
+    match block_of(home, tag) {
+        TagBlock::Known(p, n) => put_known(home, tag, p, n, r),
+        TagBlock::Unknown => put_new(home, tag, r),
     }
 }
 
 // Deletes a record of a tag that has a block of n records at cell p.
 fn delete_known(home: &mut [u8], tag: u32, p: usize, n: usize, key: u64) -> Answer
     requires { ⌜ Listed (now home) tag p n ⌝ }
-    ensures { λ a. ⌜ a ≡ told (deleteIn (now (home .entry)) tag key .answer) ⌝ }
-    ensures { λ _. ⌜ now (home .exit) ≡ leaves (now (home .entry)) (deleteIn (now (home .entry)) tag key) ⌝ }
+    ensures { λ a. ⌜ a ≡ answered Answer.Refused (deleteIn (now (home .entry)) tag key) ⌝ }
+    ensures { λ _. ⌜ now (home .exit) ≡ left (deleteIn (now (home .entry)) tag key) (now (home .entry)) ⌝ }
 {
     match search_at(home, p, n, key) {
         Place::Found(j) => {
@@ -127,24 +117,20 @@ fn delete_known(home: &mut [u8], tag: u32, p: usize, n: usize, key: u64) -> Answ
 // Deletes the record with this primary part from a tag's list. Refused: 9, no such record.
 pub fn delete(home: &mut [u8], tag: u32, key: u64) -> Answer
     requires { ⌜ sound (now home) ≡ true ⌝ }
-    ensures { λ a. ⌜ a ≡ told (deleteIn (now (home .entry)) tag key .answer) ⌝ }
-    ensures { λ _. ⌜ now (home .exit) ≡ leaves (now (home .entry)) (deleteIn (now (home .entry)) tag key) ⌝ }
+    ensures { λ a. ⌜ a ≡ answered Answer.Refused (deleteIn (now (home .entry)) tag key) ⌝ }
+    ensures { λ _. ⌜ now (home .exit) ≡ left (deleteIn (now (home .entry)) tag key) (now (home .entry)) ⌝ }
 {
-    match find(home, tag) {
-        Slot::At(i) => {
-            let p = cell_of(home, i);
-            let n = count_of(home, p);
-            delete_known(home, tag, p, n, key)
-        }
-        Slot::Absent(_) => Answer::Refused(9),
+    match block_of(home, tag) {
+        TagBlock::Known(p, n) => delete_known(home, tag, p, n, key),
+        TagBlock::Unknown => Answer::Refused(9),
     }
 }
 
 // Sets the minutes of a record of a tag that has a block of n records at cell p.
 fn set_known(home: &mut [u8], tag: u32, p: usize, n: usize, key: u64, minutes: u8) -> Answer
     requires { ⌜ Listed (now home) tag p n ⌝ }
-    ensures { λ a. ⌜ a ≡ told (setIn (now (home .entry)) tag key minutes .answer) ⌝ }
-    ensures { λ _. ⌜ now (home .exit) ≡ leaves (now (home .entry)) (setIn (now (home .entry)) tag key minutes) ⌝ }
+    ensures { λ a. ⌜ a ≡ answered Answer.Refused (setIn (now (home .entry)) tag key minutes) ⌝ }
+    ensures { λ _. ⌜ now (home .exit) ≡ left (setIn (now (home .entry)) tag key minutes) (now (home .entry)) ⌝ }
 {
     match search_at(home, p, n, key) {
         Place::Found(j) => {
@@ -158,30 +144,24 @@ fn set_known(home: &mut [u8], tag: u32, p: usize, n: usize, key: u64, minutes: u
 // Sets the minutes of the record with this primary part in a tag's list. Refused: 9, no such record.
 pub fn set_minutes(home: &mut [u8], tag: u32, key: u64, minutes: u8) -> Answer
     requires { ⌜ sound (now home) ≡ true ⌝ }
-    ensures { λ a. ⌜ a ≡ told (setIn (now (home .entry)) tag key minutes .answer) ⌝ }
-    ensures { λ _. ⌜ now (home .exit) ≡ leaves (now (home .entry)) (setIn (now (home .entry)) tag key minutes) ⌝ }
+    ensures { λ a. ⌜ a ≡ answered Answer.Refused (setIn (now (home .entry)) tag key minutes) ⌝ }
+    ensures { λ _. ⌜ now (home .exit) ≡ left (setIn (now (home .entry)) tag key minutes) (now (home .entry)) ⌝ }
 {
-    match find(home, tag) {
-        Slot::At(i) => {
-            let p = cell_of(home, i);
-            let n = count_of(home, p);
-            set_known(home, tag, p, n, key, minutes)
-        }
-        Slot::Absent(_) => Answer::Refused(9),
+    match block_of(home, tag) {
+        TagBlock::Known(p, n) => set_known(home, tag, p, n, key, minutes),
+        TagBlock::Unknown => Answer::Refused(9),
     }
 }
 
 // Drops a tag with its list. Refused: 9, no such tag.
 pub fn drop_tag(home: &mut [u8], tag: u32) -> Answer
     requires { ⌜ sound (now home) ≡ true ⌝ }
-    ensures { λ a. ⌜ a ≡ told (dropIn (now (home .entry)) tag .answer) ⌝ }
-    ensures { λ _. ⌜ now (home .exit) ≡ leaves (now (home .entry)) (dropIn (now (home .entry)) tag) ⌝ }
+    ensures { λ a. ⌜ a ≡ answered Answer.Refused (dropIn (now (home .entry)) tag) ⌝ }
+    ensures { λ _. ⌜ now (home .exit) ≡ left (dropIn (now (home .entry)) tag) (now (home .entry)) ⌝ }
 {
-    let Slot::At(i) = find(home, tag) else {
+    let TagBlock::Known(p, n) = block_of(home, tag) else {
         return Answer::Refused(9);
     };
-    let p = cell_of(home, i);
-    let n = count_of(home, p);
     take_out(home, tag, class_of(n), p);
     Answer::Count(0)
 }

@@ -11,12 +11,13 @@ use lib.ListN.{length}
 use borrow.Author.Tests.{leb-true, leb-false, le-leb, lt-leb, ne-eqb}
 use Rattle.wire.specs.Cases.{by-test, by-lt}
 use Rattle.wire.specs.All.{All, none as nil, more, all-append}
+use Rattle.wire.specs.Bytes.{isSome}
 use Rattle.records.specs.declared.Record.{Record}
 use Rattle.home.specs.Zones.{Block, Zone, empty, from, endOf, blocks, hasTag, find, place, takeOut, based, joined, total, afresh, layAfresh, settle, change}
 use Rattle.home.specs.Perm.{Perm, ptrans, sum, after}
 use Rattle.home.specs.PermLaws.{prefl, psym, pleft, pright, pfront, protate, plength, psum}
 use Rattle.home.specs.Valid.{Sits, Laid, Fit, Valid}
-use Rattle.home.specs.Cases.{by-pick, isSome, orElse, Holds, holds-some, holds-both, holds-to, holds-else, holds-at, else-first, else-some, some-is, none-is}
+use Rattle.home.specs.Cases.{by-pick, orElse, Holds, holds-some, holds-both, holds-to, holds-else, holds-at, else-first, else-some, some-is, none-is}
 use Rattle.home.specs.FindLaws.{Lacks, pdistinct}
 use Rattle.home.specs.PlaceLaws.{length-snoc, Made, Placed, place-made, place-length}
 use Rattle.home.specs.RoomLaws.{shrink-room}

@@ -6,7 +6,7 @@ use Prim.Native.Nat.{ℕ, suc, _+_, _*_, _-_, _≤_}
 use native.Mathlib.Omega.{arith}
 use lib.ListN.{length, replicate, length-append, length-replicate}
 use Rattle.wire.specs.Bytes.{part, over, bytes16, bytes32}
-use Rattle.wire.specs.BytesLaws.{length-over, part-over}
+use Rattle.wire.specs.BytesLaws.{length-over, part-over, Clear, part-else}
 use Rattle.wire.specs.All.{All, none, more, all-append, all-map, all-head, all-tail}
 use Rattle.records.specs.Edits.{length-encode}
 use Rattle.home.specs.Capacities.{cells, capacity, classOf}
@@ -16,7 +16,7 @@ use Rattle.home.specs.Layout.{Sits, Laid, Fit}
 use Rattle.home.specs.Bytes.{blockBytes, Spot, row, spots, paint, area}
 use Rattle.home.specs.PermLaws.{pairs-append}
 use Rattle.home.specs.AfreshLaws.{laid-fit as laid-fit-by}
-use Rattle.home.specs.BytesLaws.{Clear, part-else, part-zeros}
+use Rattle.home.specs.BytesLaws.{part-zeros}
 
 -- ---- layouts
 
@@ -81,7 +81,7 @@ spots-apart n c e (from f x xs ∷ zs) h =
     pairs-append Apart (row c f (x ∷ xs)) (spots (suc c) zs) (row-apart c f (x ∷ xs)) (spots-apart n (suc c) g zs (h .1))
     (before f g n (row c f (x ∷ xs)) (spots (suc c) zs) (row-within c f (x ∷ xs)) (spots-within n (suc c) g zs (h .1)))
 
-row-sits : (c p : ℕ) (xs : List Block) → All (Sits c) xs → All (λ (s : Spot). Sits (s .class) (s .block)) (row c p xs)
+pub row-sits : (c p : ℕ) (xs : List Block) → All (Sits c) xs → All (λ (s : Spot). Sits (s .class) (s .block)) (row c p xs)
 unfolding row
 row-sits c p [] h = none
 row-sits c p (x ∷ xs) (more s h) = more s (row-sits c (p + cells c) xs h)
@@ -113,7 +113,7 @@ bytesOf s = blockBytes (s .class) (s .block)
 abbrev pub Reads : List ℕ → Spot → Type 0
 Reads a s = part a (8 * s .cell) (8 * cells (s .class)) ≡ bytesOf s
 
-clear8 : (i n j m : ℕ) → Clear i n j m → Clear (8 * i) (8 * n) (8 * j) (8 * m)
+pub clear8 : (i n j m : ℕ) → Clear i n j m → Clear (8 * i) (8 * n) (8 * j) (8 * m)
 clear8 i n j m (inl h) = inl (omega arith)
 clear8 i n j m (inr h) = inr (omega arith)
 
@@ -123,7 +123,7 @@ length-paint [] a = refl
 length-paint (s ∷ ss) a = length-over (paint ss a) (8 * s .cell) (bytesOf s) ∙ length-paint ss a
 
 -- bytes where no block lies
-paint-else : (n j m : ℕ) (ss : List Spot) (a : List ℕ) → All (Good n) ss → All (λ (s : Spot). Clear (s .cell) (cells (s .class)) j m) ss
+pub paint-else : (n j m : ℕ) (ss : List Spot) (a : List ℕ) → All (Good n) ss → All (λ (s : Spot). Clear (s .cell) (cells (s .class)) j m) ss
     → part (paint ss a) (8 * j) (8 * m) ≡ part a (8 * j) (8 * m)
 unfolding paint
 paint-else n j m [] a g h = refl

@@ -97,6 +97,10 @@ encode R zs = bytes16 (length (blocks zs)) ++ (entries zs ++ (replicate 6 0 ++ (
 abbrev pub cellAt : ℕ → ℕ
 cellAt p = 1664 + 8 * p
 
+-- a block's records begin behind its header
+abbrev pub listAt : ℕ → ℕ
+listAt p = cellAt p + 8
+
 abbrev pub entryAt : ℕ → ℕ
 entryAt c = 2 + 4 * c
 
@@ -106,7 +110,7 @@ countAt h p = get16 h (cellAt p + 4)
 
 unfoldable pub blockAt : List ℕ → ℕ → Block
 unfolding get16 get32 records
-blockAt h p = record { tag = get32 h (cellAt p); list = records h (cellAt p + 8) (countAt h p) }
+blockAt h p = record { tag = get32 h (cellAt p); list = records h (listAt p) (countAt h p) }
 
 -- n blocks of class c from cell p on
 unfoldable pub blocksAt : List ℕ → ℕ → ℕ → ℕ → List Block

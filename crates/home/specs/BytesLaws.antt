@@ -1,26 +1,16 @@
--- Parts of bytes: read where others were written, joined, and numbers read and written back.
+-- Parts of bytes joined, and numbers read and written back.
 use mathlib.Core.Path.{_≡_, sym, ap, _∙_}
-use mathlib.Core.Logic.{_⊎_, inl, inr}
 use mathlib.Core.List.{List, [], _∷_, _++_}
-use Prim.Native.Nat.{ℕ, zero, suc, _+_, _*_, _/_, _%_, _≤_, _<_}
+use Prim.Native.Nat.{ℕ, zero, suc, _+_, _≤_, _<_}
 use native.Mathlib.Omega.{arith}
 use lib.ListN.{length, take, drop, getD, replicate, length-replicate, getD-replicate, take-append-drop}
 use lib.Seq.{getD-drop, drop-drop, drop-at, take-at, drop-cons, ext-getD}
 use Rattle.wire.specs.Bytes.{part, over, get16, get32, bytes16, bytes32, Bytes}
-use Rattle.wire.specs.BytesLaws.{part-same, length-part, part-at, length-over, over-low, over-high, get16-over, get32-over}
+use Rattle.wire.specs.BytesLaws.{length-part, part-at, get16-over, get32-over, digits16, digits32}
 use Rattle.wire.specs.All.{All, none, more}
 use Rattle.records.specs.Records.{Fits, records}
 use Rattle.records.specs.Cells.{records-none, records-more}
 use Rattle.records.specs.Edits.{record-fits}
-
--- the parts of n bytes from i on and of m from j on have no byte in common
-abbrev pub Clear : ℕ → ℕ → ℕ → ℕ → Type 0
-Clear i n j m = (i + n ≤ j) ⊎ (j + m ≤ i)
-
--- a part where nothing was written
-pub part-else : (l : List ℕ) (i : ℕ) (v : List ℕ) (j m : ℕ) → Clear i (length v) j m → part (over l i v) j m ≡ part l j m
-part-else l i v j m (inl d) = part-same l (over l i v) j m (length-over l i v) (λ k lo hi. over-high l i v k (omega arith))
-part-else l i v j m (inr d) = part-same l (over l i v) j m (length-over l i v) (λ k lo hi. over-low l i v k (omega arith))
 
 pub part-zeros : (n i m : ℕ) → i + m ≤ n → part (replicate n 0) i m ≡ replicate m 0
 part-zeros n i m h =
@@ -71,23 +61,6 @@ records-fit h at zero b = rw records-none none
 records-fit h at (suc n) b = rw (records-more h at n) (more (record-fits h at b) (records-fit h (at + 8) n b))
 
 -- read, then written
-digits16 : (a b : ℕ) → a < 256 → b < 256 → bytes16 (a * 256 + b) ≡ a ∷ b ∷ []
-unfolding bytes16
-digits16 a b ha hb =
-    let e : (a * 256 + b) / 256 % 256 ≡ a = omega arith in
-    let f : (a * 256 + b) % 256 ≡ b = omega arith in
-    rw (e, f)
-
-digits32 : (a b c d : ℕ) → a < 256 → b < 256 → c < 256 → d < 256 → bytes32 (a * 16777216 + b * 65536 + c * 256 + d) ≡ a ∷ b ∷ c ∷ d ∷ []
-unfolding bytes32
-digits32 a b c d ha hb hc hd =
-    let v : ℕ = a * 16777216 + b * 65536 + c * 256 + d in
-    let e : v / 16777216 % 256 ≡ a = omega arith in
-    let f : v / 65536 % 256 ≡ b = omega arith in
-    let g : v / 256 % 256 ≡ c = omega arith in
-    let h : v % 256 ≡ d = omega arith in
-    rw (e, f, g, h)
-
 cons-at : (l : List ℕ) (at k : ℕ) → at < length l → suc at ≡ k → drop at l ≡ getD l at 0 ∷ drop k l
 cons-at l at k h e = rw (← e) (drop-cons l at 0 h)
 

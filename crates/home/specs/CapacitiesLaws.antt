@@ -1,5 +1,5 @@
 -- The class of a number of records, and that block sizes rise with the class.
-use mathlib.Core.Path.{_≡_, refl, _∙_}
+use mathlib.Core.Path.{_≡_, refl, sym, ap, _∙_}
 use mathlib.Core.Bool.{Bool, true, _&&_}
 use mathlib.Core.List.{List, [], _∷_, _++_}
 use Prim.Native.Nat.{ℕ, zero, suc, _+_, _-_, _≤_, _<_, suc-le-suc}
@@ -13,11 +13,6 @@ use Rattle.wire.specs.Cases.{by-lt, by-eq, both}
 use Rattle.home.specs.Capacities.{capacities, capacity, under, cells, classFrom, classOf, table, short}
 use Rattle.home.specs.Cases.{by-pick}
 use Rattle.home.specs.Table.{table-at}
-
--- the list holds the capacities
-pub capacity-read : (c : ℕ) → c < 30 → getD capacities c 0 ≡ capacity c
-unfolding capacities capacity
-capacity-read c h = table-at capacity capacities refl c h
 
 -- the table holds the classes
 pub table-class : (n : ℕ) → n < 990 → getD table n 0 ≡ classOf n
@@ -175,3 +170,17 @@ class-within n c b l r =
     by-lt c (classOf n)
     (λ k. absurd (omega (arith, class-least n c b k)))
     (λ k. by-lt (classOf n) c (λ q. absurd (not-lower n c l (classOf n) refl (omega arith) q)) (λ q. omega arith))
+
+-- ---- what the code finds
+
+pub capacity-at : (c k v : ℕ) → c ≡ k → capacity k ≡ v → v < 990 → (v ≡ capacity c) × (v < 990)
+capacity-at c k v e f g = (sym f ∙ ap capacity (sym e), g)
+
+-- none of the first n numbers
+abbrev pub Past : ℕ → ℕ → Type 0
+Past zero c = Unit
+Past (suc n) c = Past n c × (c ≡ n → ⊥)
+
+pub past : (n c : ℕ) → Past n c → n ≤ c
+past zero c p = omega arith
+past (suc n) c p = let a : n ≤ c = past n c (p .0) in let b : c ≡ n → ⊥ = p .1 in omega arith

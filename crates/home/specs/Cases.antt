@@ -4,16 +4,12 @@ use mathlib.Core.Bool.{Bool, true, false}
 use mathlib.Core.Option.{Option, none, some, IsSome, Option·map}
 use mathlib.Core.List.{List, _∷_}
 use Rattle.wire.specs.Bytes.{pick}
+use Rattle.wire.specs.Bytes.{isSome}
 
 -- a choice by a test, both ways known
 pub by-pick : {X : Type 0} (P : X → Type 0) (t : Bool) {x y : X} → (t ≡ true → P x) → (t ≡ false → P y) → P (pick t x y)
 by-pick P true f g = f refl
 by-pick P false f g = g refl
-
--- is there an answer
-unfoldable pub isSome : {A : Type 0} → Option A → Bool
-isSome none = false
-isSome (some x) = true
 
 -- the first answer, or else the second
 unfoldable pub orElse : {A : Type 0} → Option A → Option A → Option A
@@ -60,12 +56,10 @@ else-some none o' h = h
 else-some (some x) o' h = tt
 
 pub some-is : {A : Type 0} (o : Option A) → IsSome o → isSome o ≡ true
-unfolding isSome
 some-is none h = absurd h
 some-is (some x) h = refl
 
 pub none-is : {A : Type 0} (o : Option A) → (IsSome o → ⊥) → isSome o ≡ false
-unfolding isSome
 none-is none h = refl
 none-is (some x) h = absurd (h tt)
 

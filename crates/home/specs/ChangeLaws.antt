@@ -10,12 +10,12 @@ use lib.Dec.{eqb}
 use lib.ListN.{length}
 use borrow.Author.Tests.{eqb-true, eqb-false}
 use Rattle.wire.specs.Cases.{never}
-use Rattle.wire.specs.All.{All, more, all-tail}
+use Rattle.wire.specs.All.{more, all-tail}
 use Rattle.records.specs.declared.Record.{Record}
-use Rattle.records.specs.Records.{Fits, rising}
+use Rattle.records.specs.Records.{rising}
 use Rattle.home.specs.Zones.{Block, Zone, empty, from, zone, place, hasTag, takeOut, blocks, find, replaced, rewritten, settle, change}
 use Rattle.home.specs.Perm.{Perm, pskip, pswap, ptrans, Pairs, after}
-use Rattle.home.specs.Valid.{Other, Sits, Lies, Laid, Valid}
+use Rattle.home.specs.Valid.{Other, Sits, Lies, Laid, Valid, Proper}
 use Rattle.home.specs.Cases.{by-pick, Holds, holds-to}
 use Rattle.home.specs.PermLaws.{prefl, psym, pleft, pright, pfront, plength, pall, pairs-head, pairs-tail}
 use Rattle.home.specs.FindLaws.{Lacks, pdistinct, find-here, find-skip, has-append, find-later, find-none, lacks-has, pfind}
@@ -113,15 +113,9 @@ module _ (cells classOf : ℕ → ℕ) where
             ∙ sym (pfind u (s .was) (v .distinct) ∙ find-skip u (s .old) (s .rest) (λ e. k (e ∙ s .tag)));
       }
 
--- what a new list has to be
-pub record Listed (rs : List Record) : Type 0 where
-  pub rising : rising rs ≡ true
-  pub fits : All Fits rs
-  pub short : length rs ≤ 989
-
 module _ (cells classOf : ℕ → ℕ) (mono : (c : ℕ) → cells c ≤ cells (suc c)) (pos : (c : ℕ) → 0 < cells c)
     (holds : (n : ℕ) → n ≤ 989 → n < cells (classOf n)) (below : (n : ℕ) → n ≤ 989 → classOf n < 30) (ordered : (m n : ℕ) → m ≤ n → classOf m ≤ classOf n) where
-  pub sits : (t : ℕ) (r : Record) (rs : List Record) → t < 4294967296 → Listed (r ∷ rs) → Sits cells classOf (classOf (length (r ∷ rs))) (record { tag = t; list = r ∷ rs })
+  pub sits : (t : ℕ) (r : Record) (rs : List Record) → t < 4294967296 → Proper (r ∷ rs) → Sits cells classOf (classOf (length (r ∷ rs))) (record { tag = t; list = r ∷ rs })
   sits t r rs b h = record { tag = b; some = omega arith; room = holds (length (r ∷ rs)) (h .short); class = refl; rising = h .rising; fits = h .fits }
 
   module _ (n t : ℕ) (zs : List Zone) (v : Valid cells classOf n zs) (bt : t < 4294967296) where
@@ -129,7 +123,7 @@ module _ (cells classOf : ℕ → ℕ) (mono : (c : ℕ) → cells c ≤ cells (
     drop-changed i = let k : TakenOut cells classOf t n zs (takeOut cells t 0 0 zs) = takeOut-valid cells classOf pos t n zs v i in
         record { valid = k .valid; found = find-none t (blocks (takeOut cells t 0 0 zs)) (k .gone); others = k .others }
 
-    module _ (r : Record) (rs : List Record) (l : Listed (r ∷ rs)) where
+    module _ (r : Record) (rs : List Record) (l : Proper (r ∷ rs)) where
       settled-changed : (ws zs' : List Zone) → Valid cells classOf n ws → Lacks t (blocks ws) → ((u : ℕ) → u ≢ t → find u (blocks ws) ≡ find u (blocks zs))
           → Placed cells classOf n (record { tag = t; list = r ∷ rs }) ws zs' → Changed cells classOf t n (r ∷ rs) zs zs'
       settled-changed ws zs' w k o p =
@@ -169,7 +163,7 @@ module _ (cells classOf : ℕ → ℕ) (mono : (c : ℕ) → cells c ≤ cells (
     Open [] = hasTag t (blocks zs) ≡ true
     Open (r ∷ rs) = hasTag t (blocks zs) ≡ false → length (blocks zs) < 256
 
-    pub change-changed : (rs : List Record) → Listed rs → Open rs → Holds (Changed cells classOf t n rs zs) (change cells classOf n t rs zs)
+    pub change-changed : (rs : List Record) → Proper rs → Open rs → Holds (Changed cells classOf t n rs zs) (change cells classOf n t rs zs)
     unfolding change
     change-changed [] l o = drop-changed o
     change-changed (r ∷ rs) l o = by-pick (Holds (Changed cells classOf t n (r ∷ rs) zs)) (hasTag t (blocks zs))

@@ -1,7 +1,7 @@
 -- The dictionary: it does not depend on the order of blocks, is strictly rising, and is the only such list that leads to all blocks.
-use mathlib.Core.Path.{_≡_, refl, sym, ap, _∙_, subst}
+use mathlib.Core.Path.{_≡_, refl, sym, ap, ap₂, _∙_, subst}
 use mathlib.Core.Logic.{inl, inr, _≢_}
-use mathlib.Core.List.{List, [], _∷_, _++_, map}
+use mathlib.Core.List.{List, [], _∷_, _++_, map, map-append}
 use Prim.Native.Nat.{ℕ, suc, _+_, _≤_, _<_}
 use native.Mathlib.Omega.{arith}
 use lib.Dec.{ltb}
@@ -10,7 +10,7 @@ use borrow.Author.Tests.{ltb-true, ltb-false, lt-ltb, le-ltb}
 use Rattle.wire.specs.Cases.{by-lt}
 use Rattle.wire.specs.All.{All, none, more, all-map}
 use Rattle.home.specs.Capacities.{cells}
-use Rattle.home.specs.Zones.{Block, Zone, empty, from, blocks}
+use Rattle.home.specs.Zones.{Block, Zone, empty, from, zone, blocks}
 use Rattle.home.specs.Perm.{Perm, pnil, pskip, pswap, ptrans, In, Pairs, single, after}
 use Rattle.home.specs.Valid.{Other}
 use Rattle.home.specs.Bytes.{Spot, row, spots, Entry, entryOf, enter, sorted, dictionary}
@@ -26,11 +26,11 @@ Below x y = x .tag < y .tag
 
 -- ---- entering
 
-enter-here : (x y : Entry) (ys : List Entry) → x .tag < y .tag → enter x (y ∷ ys) ≡ x ∷ y ∷ ys
+pub enter-here : (x y : Entry) (ys : List Entry) → x .tag < y .tag → enter x (y ∷ ys) ≡ x ∷ y ∷ ys
 unfolding enter
 enter-here x y ys h = rw (lt-ltb (x .tag) (y .tag) h)
 
-enter-on : (x y : Entry) (ys : List Entry) → y .tag ≤ x .tag → enter x (y ∷ ys) ≡ y ∷ enter x ys
+pub enter-on : (x y : Entry) (ys : List Entry) → y .tag ≤ x .tag → enter x (y ∷ ys) ≡ y ∷ enter x ys
 unfolding enter
 enter-on x y ys h = rw (le-ltb (x .tag) (y .tag) h)
 
@@ -49,10 +49,10 @@ enter-lower x y (z ∷ zs) h = by-lt (x .tag) (z .tag)
 enter-comm : (x y : Entry) (zs : List Entry) → Else x y → enter x (enter y zs) ≡ enter y (enter x zs)
 enter-comm x y zs h = by-lt (x .tag) (y .tag) (λ a. enter-lower x y zs a) (λ a. sym (enter-lower y x zs (omega arith)))
 
-else-sym : (x y : Entry) → Else x y → Else y x
+pub else-sym : (x y : Entry) → Else x y → Else y x
 else-sym x y h e = h (sym e)
 
-sorted-perm : {xs ys : List Entry} → Perm xs ys → Pairs Else xs → sorted xs ≡ sorted ys
+pub sorted-perm : {xs ys : List Entry} → Perm xs ys → Pairs Else xs → sorted xs ≡ sorted ys
 unfolding sorted
 sorted-perm pnil h = refl
 sorted-perm (pskip x p) (after a h) = ap (enter x) (sorted-perm p h)
@@ -64,7 +64,7 @@ unfolding enter
 enter-perm x [] = prefl (x ∷ [])
 enter-perm x (y ∷ ys) = by-pick (λ (l : List Entry). Perm l (x ∷ y ∷ ys)) (ltb (x .tag) (y .tag)) (λ t. prefl (x ∷ y ∷ ys)) (λ t. ptrans (pskip y (enter-perm x ys)) (pswap y x ys))
 
-perm-sorted : (xs : List Entry) → Perm (sorted xs) xs
+pub perm-sorted : (xs : List Entry) → Perm (sorted xs) xs
 unfolding sorted
 perm-sorted [] = pnil
 perm-sorted (x ∷ xs) = ptrans (enter-perm x (sorted xs)) (pskip x (perm-sorted xs))
@@ -80,12 +80,12 @@ enter-rising x (y ∷ ys) (more o os) (after a h) = by-pick (Pairs Below) (ltb (
     let b' : y .tag < x .tag = omega arith in
     after (pall (Below y) (psym (enter-perm x ys)) (more b' a)) (enter-rising x ys os h))
 
-sorted-rising : (xs : List Entry) → Pairs Else xs → Pairs Below (sorted xs)
+pub sorted-rising : (xs : List Entry) → Pairs Else xs → Pairs Below (sorted xs)
 unfolding sorted
 sorted-rising [] h = single
 sorted-rising (x ∷ xs) (after a h) = enter-rising x (sorted xs) (pall (Else x) (psym (perm-sorted xs)) a) (sorted-rising xs h)
 
-enter-first : (x : Entry) (ys : List Entry) → All (Below x) ys → enter x ys ≡ x ∷ ys
+pub enter-first : (x : Entry) (ys : List Entry) → All (Below x) ys → enter x ys ≡ x ∷ ys
 unfolding enter
 enter-first x [] h = refl
 enter-first x (y ∷ ys) (more b h) = enter-here x y ys b
@@ -95,7 +95,7 @@ unfolding sorted
 sorted-of-rising [] h = refl
 sorted-of-rising (x ∷ xs) (after a h) = ap (enter x) (sorted-of-rising xs h) ∙ enter-first x xs a
 
-rising-else : (xs : List Entry) → Pairs Below xs → Pairs Else xs
+pub rising-else : (xs : List Entry) → Pairs Below xs → Pairs Else xs
 rising-else [] h = single
 rising-else (x ∷ xs) (after a h) = after (all-map {P = Below x} {Q = Else x} (λ y b. omega arith) a) (rising-else xs h)
 
@@ -127,22 +127,27 @@ dictionary-of ds zs b h l =
 
 -- ---- blocks and spots
 
-row-blocks : (c p : ℕ) (xs : List Block) (ss : List Spot) → map (λ (s : Spot). s .block) (row c p xs ++ ss) ≡ xs ++ map (λ (s : Spot). s .block) ss
+pub zone-spots : (c f : ℕ) (bs : List Block) (zs : List Zone) → spots c (zone f bs ∷ zs) ≡ row c f bs ++ spots (suc c) zs
+unfolding spots zone row
+zone-spots c f [] zs = refl
+zone-spots c f (x ∷ xs) zs = refl
+
+pub row-blocks : (c p : ℕ) (xs : List Block) → map (λ (s : Spot). s .block) (row c p xs) ≡ xs
 unfolding row
-row-blocks c p [] ss = refl
-row-blocks c p (x ∷ xs) ss = ap (λ (l : List Block). x ∷ l) (row-blocks c (p + cells c) xs ss)
+row-blocks c p [] = refl
+row-blocks c p (x ∷ xs) = ap (λ (l : List Block). x ∷ l) (row-blocks c (p + cells c) xs)
 
 pub spots-blocks : (c : ℕ) (zs : List Zone) → map (λ (s : Spot). s .block) (spots c zs) ≡ blocks zs
 unfolding spots blocks
 spots-blocks c [] = refl
 spots-blocks c (empty ∷ zs) = spots-blocks (suc c) zs
-spots-blocks c (from f x xs ∷ zs) = row-blocks c f (x ∷ xs) (spots (suc c) zs) ∙ ap (λ (l : List Block). x ∷ (xs ++ l)) (spots-blocks (suc c) zs)
+spots-blocks c (from f x xs ∷ zs) = map-append (λ (s : Spot). s .block) (row c f (x ∷ xs)) (spots (suc c) zs) ∙ ap₂ (λ (l r : List Block). l ++ r) (row-blocks c f (x ∷ xs)) (spots-blocks (suc c) zs)
 
 else-of : (s : Spot) (ss : List Spot) → All (Other (s .block)) (map (λ (r : Spot). r .block) ss) → All (Else (entryOf s)) (map entryOf ss)
 else-of s [] h = none
 else-of s (r ∷ ss) (more o h) = more o (else-of s ss h)
 
-pairs-of : (ss : List Spot) → Pairs Other (map (λ (s : Spot). s .block) ss) → Pairs Else (map entryOf ss)
+pub pairs-of : (ss : List Spot) → Pairs Other (map (λ (s : Spot). s .block) ss) → Pairs Else (map entryOf ss)
 pairs-of [] h = single
 pairs-of (s ∷ ss) (after a h) = after (else-of s ss a) (pairs-of ss h)
 

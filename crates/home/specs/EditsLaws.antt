@@ -1,16 +1,18 @@
--- The four edits: each answers and leaves what the specification says, and keeps the layout valid. Delete, set and drop are refused with 9 only.
+-- The four edits: where one is not refused there is room for the list that it makes, and the layout stays valid.
 use mathlib.Core.Path.{_≡_, refl, sym, ap, _∙_}
-use mathlib.Core.Bool.{true, false, _||_}
-use mathlib.Core.Logic.{_≢_}
+use mathlib.Core.Bool.{true, false, not, _&&_}
 use mathlib.Core.Option.{Option, none, some, IsSome}
 use mathlib.Core.List.{List, [], _∷_}
 use Prim.Native.Nat.{ℕ, suc, _+_, _*_, _≤_, _<_}
 use native.Mathlib.Omega.{arith}
 use lib.Dec.{leb, ltb, eqb}
 use lib.ListN.{length}
-use borrow.Author.Tests.{ltb-true}
+use borrow.Author.Tests.{ltb-false, leb-false, le-leb, not-false}
 use Rattle.wire.specs.Cases.{never}
+use Rattle.wire.specs.Rules.{refusal}
+use Rattle.wire.specs.RulesLaws.{passes}
 use Rattle.wire.specs.All.{All, none as nothing, more, all-append, all-map}
+use Rattle.wire.specs.Bytes.{isSome}
 use Rattle.records.specs.declared.Record.{Record}
 use Rattle.records.specs.Records.{Fits, key, rising, look, held, insert, remove, lasting, amend}
 use Rattle.records.specs.Order.{rising-nil, insert-rising, remove-rising, amend-rising}
@@ -18,13 +20,14 @@ use Rattle.home.specs.Capacities.{cells, classOf}
 use Rattle.home.specs.CapacitiesLaws.{cells-mono, cells-pos, cells-most, class-below, class-holds, class-mono}
 use Rattle.home.specs.Zones.{Block, Zone, empty, from, hasTag, blocks, find, total}
 use Rattle.home.specs.Layout.{Sits, Laid, Valid, change, totalAfter}
-use Rattle.home.specs.Edits.{Answer, count, refused, Edited, edited, put, delete, setMinutes, dropTag}
-use Rattle.home.specs.Cases.{by-pick, isSome, Holds}
+use Rattle.home.specs.Edits.{recordRules, put, delete, setMinutes, dropTag}
+use Rattle.home.specs.Cases.{by-pick, some-is, Holds}
 use Rattle.home.specs.FindLaws.{by-tag, has-here, has-skip, find-here, find-skip}
 use Rattle.home.specs.Sizes.{blockSize}
 use Rattle.home.specs.AfreshLaws.{laid-total}
-use Rattle.home.specs.ChangeLaws.{Changed, Listed, Open, change-changed, shorter-some}
+use Rattle.home.specs.ChangeLaws.{Changed, Open, change-changed, shorter-some}
 use Rattle.home.specs.ExactLaws.{had, change-exactly}
+use Rattle.home.specs.Valid.{Proper}
 
 -- ---- lists
 
@@ -66,13 +69,13 @@ not-held none h = refl
 not-held (some r) h = never (sym h)
 
 -- what an edit makes of a list that may stand in a block may stand in one
-pub remove-listed : (k : ℕ) (rs : List Record) → Listed rs → Listed (remove k rs)
+pub remove-listed : (k : ℕ) (rs : List Record) → Proper rs → Proper (remove k rs)
 remove-listed k rs l = record { rising = remove-rising 0 k rs (l .rising); fits = remove-fits k rs (l .fits); short = omega (arith, length-remove k rs, l .short) }
 
-pub amend-listed : (k m : ℕ) (rs : List Record) → m < 256 → Listed rs → Listed (amend k m rs)
+pub amend-listed : (k m : ℕ) (rs : List Record) → m < 256 → Proper rs → Proper (amend k m rs)
 amend-listed k m rs b l = record { rising = amend-rising 0 k m rs (l .rising); fits = amend-fits k m rs b (l .fits); short = omega (arith, length-amend k m rs, l .short) }
 
-pub insert-listed : (r : Record) (rs : List Record) → Fits r → held (look (key r) rs) ≡ false → length rs < 989 → Listed rs → Listed (insert r rs)
+pub insert-listed : (r : Record) (rs : List Record) → Fits r → held (look (key r) rs) ≡ false → length rs < 989 → Proper rs → Proper (insert r rs)
 insert-listed r rs f h g l = record {
   rising = insert-rising 0 r rs (omega arith) (not-held (look (key r) rs) h) (l .rising);
   fits = insert-fits r rs f (l .fits);
@@ -81,21 +84,21 @@ insert-listed r rs f h g l = record {
 
 -- ---- the lists of a valid layout
 
-listed : (c : ℕ) (b : Block) → Sits c b → Listed (b .list)
+listed : (c : ℕ) (b : Block) → Sits c b → Proper (b .list)
 listed c b s = record { rising = s .rising; fits = s .fits; short = omega (arith, s .room, cells-most c) }
 
-all-listed : (n c e : ℕ) (zs : List Zone) → Laid n c e zs → All (λ (b : Block). Listed (b .list)) (blocks zs)
+all-listed : (n c e : ℕ) (zs : List Zone) → Laid n c e zs → All (λ (b : Block). Proper (b .list)) (blocks zs)
 unfolding blocks
 all-listed n c e [] h = nothing
 all-listed n c e (empty ∷ zs) h = all-listed n (suc c) e zs h
 all-listed n c e (from f x xs ∷ zs) h = all-append (all-map (listed c) (h .0 .sit)) (all-listed n (suc c) (f + suc (length xs) * cells c) zs (h .1))
 
-find-listed : (t : ℕ) (bs : List Block) → All (λ (b : Block). Listed (b .list)) bs → Listed (find t bs)
+find-listed : (t : ℕ) (bs : List Block) → All (λ (b : Block). Proper (b .list)) bs → Proper (find t bs)
 unfolding find
 find-listed t [] h = record { rising = rising-nil 0; fits = nothing; short = omega arith }
-find-listed t (x ∷ xs) (more l h) = by-pick Listed (eqb (x .tag) t) (λ p. l) (λ p. find-listed t xs h)
+find-listed t (x ∷ xs) (more l h) = by-pick Proper (eqb (x .tag) t) (λ p. l) (λ p. find-listed t xs h)
 
-pub valid-listed : (n t : ℕ) (zs : List Zone) → Valid n zs → Listed (find t (blocks zs))
+pub valid-listed : (n t : ℕ) (zs : List Zone) → Valid n zs → Proper (find t (blocks zs))
 valid-listed n t zs v = find-listed t (blocks zs) (all-listed n 0 0 zs (v .laid))
 
 -- a tag with a record is there
@@ -123,27 +126,7 @@ find-empty t (x ∷ xs) (more g h) e =
 pub empty-unknown : (n t : ℕ) (zs : List Zone) → Valid n zs → find t (blocks zs) ≡ [] → hasTag t (blocks zs) ≡ false
 empty-unknown n t zs v e = find-empty t (blocks zs) (all-some n 0 0 zs (v .laid)) e
 
--- ---- outcomes
-
--- a count, and a layout in which tag t has the list rs; or a refusal with one of these numbers, and nothing changed
-abbrev pub Outcome : ℕ → ℕ → List Record → List Zone → (ℕ → Type 0) → Answer → List Zone → Type 0
-Outcome n t rs zs No (count m) zs' = (m ≡ length rs) × Changed cells classOf t n rs zs zs'
-Outcome n t rs zs No (refused k) zs' = No k × (zs' ≡ zs)
-
-abbrev pub Ends : ℕ → ℕ → List Record → List Zone → (ℕ → Type 0) → Edited → Type 0
-Ends n t rs zs No d = Outcome n t rs zs No (d .answer) (d .layout)
-
-edited-ends : (n t m : ℕ) (rs : List Record) (zs : List Zone) (No : ℕ → Type 0) (o : Option (List Zone)) → m ≡ length rs → No 12
-    → Holds (Changed cells classOf t n rs zs) o → Ends n t rs zs No (edited m zs o)
-unfolding edited
-edited-ends n t m rs zs No none e f h = (f, refl)
-edited-ends n t m rs zs No (some zs') e f h = (e, h)
-
-some-ends : (n t m : ℕ) (rs : List Record) (zs : List Zone) (No : ℕ → Type 0) (o : Option (List Zone)) → m ≡ length rs → IsSome o
-    → Holds (Changed cells classOf t n rs zs) o → Ends n t rs zs No (edited m zs o)
-unfolding edited
-some-ends n t m rs zs No none e f h = absurd f
-some-ends n t m rs zs No (some zs') e f h = (e, h)
+-- ---- edits that are not refused
 
 -- all blocks lie in the area
 pub total-low : (n : ℕ) (zs : List Zone) → Valid n zs → total cells 0 zs ≤ n
@@ -153,14 +136,14 @@ module _ (n t : ℕ) (zs : List Zone) (v : Valid n zs) (bt : t < 4294967296) whe
   abbrev pub Free : List Record → Type 0
   Free rs = Open cells classOf cells-mono cells-pos class-holds class-below class-mono n t zs v bt rs
 
-  pub changed : (rs : List Record) → Listed rs → Free rs → Holds (Changed cells classOf t n rs zs) (change n t rs zs)
+  pub changed : (rs : List Record) → Proper rs → Free rs → Holds (Changed cells classOf t n rs zs) (change n t rs zs)
   changed rs l o = change-changed cells classOf cells-mono cells-pos class-holds class-below class-mono n t zs v bt rs l o
 
   pub shorter : (rs : List Record) → hasTag t (blocks zs) ≡ true → length rs ≤ length (find t (blocks zs)) → IsSome (change n t rs zs)
   shorter rs i h = shorter-some cells classOf cells-mono cells-pos class-holds class-below class-mono n t zs v bt rs i h
 
   -- "Refusal 12 then means only this"
-  pub exactly : (rs : List Record) → Listed rs → isSome (change n t rs zs) ≡ leb (totalAfter t rs zs) n
+  pub exactly : (rs : List Record) → Proper rs → isSome (change n t rs zs) ≡ leb (totalAfter t rs zs) n
   exactly rs l = change-exactly cells classOf cells-mono cells-pos class-holds class-below class-mono n t zs v bt rs l
 
   -- the size of the tag's block, which is one of all
@@ -172,57 +155,53 @@ module _ (n t : ℕ) (zs : List Zone) (v : Valid n zs) (bt : t < 4294967296) whe
   free-any [] i = i
   free-any (r ∷ rs) i = λ k. never (sym k ∙ i)
 
+  -- a list that the tag may have: it may stand in a block, the dictionary has an entry for it, and there is room
+  pub record Fine (rs : List Record) : Type 0 where
+    pub listed : Proper rs
+    pub free : Free rs
+    pub room : isSome (change n t rs zs) ≡ true
+
   -- a shorter list, or one as long
-  no-longer : (m : ℕ) (rs : List Record) → Listed rs → length rs ≤ length (find t (blocks zs)) → hasTag t (blocks zs) ≡ true → m ≡ length rs
-      → Ends n t rs zs (λ (x : ℕ). x ≡ 9) (edited m zs (change n t rs zs))
-  no-longer m rs l b i e = some-ends n t m rs zs (λ (x : ℕ). x ≡ 9) (change n t rs zs) e (shorter rs i b) (changed rs l (free-any rs i))
+  no-longer : (rs : List Record) → Proper rs → length rs ≤ length (find t (blocks zs)) → hasTag t (blocks zs) ≡ true → Fine rs
+  no-longer rs l b i = record { listed = l; free = free-any rs i; room = some-is (change n t rs zs) (shorter rs i b) }
 
-  pub delete-ends : (k : ℕ) → Ends n t (remove k (find t (blocks zs))) zs (λ (x : ℕ). x ≡ 9) (delete n t k zs)
+  abbrev list : List Record
+  list = find t (blocks zs)
+
+  proper : Proper list
+  proper = valid-listed n t zs v
+
+  known : (k : ℕ) → refusal (recordRules t k zs) ≡ none → hasTag t (blocks zs) ≡ true
+  known k e = has-held t k (blocks zs) (not-false (held (look k list)) (passes 9 (not (held (look k list))) [] e .0))
+
+  -- "A delete never meets it": where the record is listed there is room
+  pub delete-fine : (k : ℕ) → refusal (delete t k zs .rules) ≡ none → Fine (delete t k zs .list)
   unfolding delete
-  delete-ends k =
-      let rs : List Record = find t (blocks zs) in
-      let l : Listed rs = valid-listed n t zs v in
-      let b : length (remove k rs) ≤ length rs = length-remove k rs in
-      by-pick (Ends n t (remove k rs) zs (λ (x : ℕ). x ≡ 9)) (held (look k rs))
-      (λ p. no-longer (length (remove k rs)) (remove k rs) (remove-listed k rs l) b (has-held t k (blocks zs) p) refl)
-      (λ p. (refl, refl))
+  delete-fine k e = no-longer (remove k list) (remove-listed k list proper) (length-remove k list) (known k e)
 
-  pub set-ends : (k m : ℕ) → m < 256 → Ends n t (amend k m (find t (blocks zs))) zs (λ (x : ℕ). x ≡ 9) (setMinutes n t k m zs)
+  pub set-fine : (k m : ℕ) → m < 256 → refusal (setMinutes t k m zs .rules) ≡ none → Fine (setMinutes t k m zs .list)
   unfolding setMinutes
-  set-ends k m bm =
-      let rs : List Record = find t (blocks zs) in
-      let l : Listed rs = valid-listed n t zs v in
-      let e : length (amend k m rs) ≡ length rs = length-amend k m rs in
-      by-pick (Ends n t (amend k m rs) zs (λ (x : ℕ). x ≡ 9)) (held (look k rs))
-      (λ p. no-longer (length rs) (amend k m rs) (amend-listed k m rs bm l) (omega (arith, e)) (has-held t k (blocks zs) p) (sym e))
-      (λ p. (refl, refl))
+  set-fine k m b e = no-longer (amend k m list) (amend-listed k m list b proper) (omega (arith, length-amend k m list)) (known k e)
 
-  pub drop-ends : Ends n t [] zs (λ (x : ℕ). x ≡ 9) (dropTag n t zs)
+  pub drop-fine : refusal (dropTag t zs .rules) ≡ none → Fine []
   unfolding dropTag
-  drop-ends =
-      by-pick (Ends n t [] zs (λ (x : ℕ). x ≡ 9)) (hasTag t (blocks zs))
-      (λ i. no-longer 0 [] (record { rising = rising-nil 0; fits = nothing; short = omega arith }) (omega arith) i refl)
-      (λ p. (refl, refl))
+  drop-fine e = no-longer [] (record { rising = rising-nil 0; fits = nothing; short = omega arith }) (omega arith) (not-false (hasTag t (blocks zs)) (passes 9 (not (hasTag t (blocks zs))) [] e .0))
 
-  -- there is a place in the dictionary
-  free-new : (rs : List Record) → 0 < length rs → hasTag t (blocks zs) || ltb (length (blocks zs)) 256 ≡ true → Free rs
+  -- the dictionary has an entry for it
+  free-new : (rs : List Record) → 0 < length rs → not (hasTag t (blocks zs)) && leb 256 (length (blocks zs)) ≡ false → Free rs
   free-new [] h o = absurd (omega arith)
-  free-new (r ∷ rs) h o = λ k. ltb-true (length (blocks zs)) 256 (rw k at o)
+  free-new (r ∷ rs) h o = λ k. leb-false 256 (length (blocks zs)) (rw k at o)
 
-  abbrev pub PutNo : ℕ → Type 0
-  PutNo x = (8 ≤ x) × (x ≤ 12) × (x ≢ 9)
-
-  pub put-ends : (r : Record) → Fits r → Ends n t (insert r (find t (blocks zs))) zs PutNo (put n t r zs)
+  pub put-fine : (r : Record) → Fits r → refusal (put n t r zs .rules) ≡ none → Fine (insert r list)
   unfolding put
-  put-ends r f =
-      let rs : List Record = find t (blocks zs) in
-      let l : Listed rs = valid-listed n t zs v in
-      let e : length (insert r rs) ≡ suc (length rs) = length-insert r rs in
-      by-pick (Ends n t (insert r rs) zs PutNo) (held (look (key r) rs)) (λ p. (omega arith, refl))
-      (λ p. by-pick (Ends n t (insert r rs) zs PutNo) (ltb (length rs) 989)
-      (λ q. by-pick (Ends n t (insert r rs) zs PutNo) (hasTag t (blocks zs) || ltb (length (blocks zs)) 256)
-      (λ o. edited-ends n t (suc (length rs)) (insert r rs) zs PutNo (change n t (insert r rs) zs) (sym e) (omega arith)
-      (changed (insert r rs) (insert-listed r rs f p (ltb-true (length rs) 989 q) l)
-      (free-new (insert r rs) (omega (arith, e)) o)))
-      (λ o. (omega arith, refl)))
-      (λ q. (omega arith, refl)))
+  put-fine r f e =
+      let a = passes 8 (held (look (key r) list)) _ e in
+      let b = passes 10 (leb 989 (length list)) _ (a .1) in
+      let c = passes 11 (not (hasTag t (blocks zs)) && leb 256 (length (blocks zs))) _ (b .1) in
+      let d = passes 12 (ltb n (totalAfter t (insert r list) zs)) [] (c .1) in
+      let l : Proper (insert r list) = insert-listed r list f (a .0) (leb-false 989 (length list) (b .0)) proper in
+      record {
+        listed = l;
+        free = free-new (insert r list) (omega (arith, length-insert r list)) (c .0);
+        room = exactly (insert r list) l ∙ le-leb (totalAfter t (insert r list) zs) n (ltb-false n (totalAfter t (insert r list) zs) (d .0));
+      }

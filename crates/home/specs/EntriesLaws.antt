@@ -1,26 +1,34 @@
 -- The dictionary's entries, read back off home's bytes.
-use mathlib.Core.Path.{_≡_, refl, sym, ap, ap₂, _∙_, subst}
-use mathlib.Core.List.{List, [], _∷_, _++_, append-assoc}
+use mathlib.Core.Path.{_≡_, refl, sym, ap, ap₂, _∙_}
+use mathlib.Core.List.{List, [], _∷_, _++_, map, append-assoc}
 use Prim.Native.Nat.{ℕ, suc, _+_, _*_, _-_, _≤_, _<_}
 use native.Mathlib.Omega.{arith}
 use lib.ListN.{length, drop, replicate, length-append}
 use lib.Seq.{drop-drop, drop-at}
 use Rattle.wire.specs.Bytes.{get16, get32, bytes16, bytes32}
-use Rattle.wire.specs.All.{All, more}
+use Rattle.wire.specs.All.{All, none, more}
 use Rattle.home.specs.Zones.{Zone, blocks}
 use Rattle.home.specs.Perm.{In}
 use Rattle.home.specs.Layout.{Sits, Fit, Valid}
 use Rattle.home.specs.Bytes.{Spot, spots, area, entries, Entry, entryOf, dictionary, entriesBytes, padded, encode, tagAt, placeAt, entriesAt}
-use Rattle.home.specs.PermLaws.{in-map, in-all, all-in, pin}
+use Rattle.home.specs.PermLaws.{psym, pall, all-in}
 use Rattle.home.specs.BytesLaws.{get16-front, get32-front}
 use Rattle.home.specs.AreaLaws.{Good, spots-sit, spots-good}
 use Rattle.home.specs.HomeLaws.{get16-at, get32-at, length-entries, length-dictionary, fit}
 use Rattle.home.specs.DictionaryLaws.{dictionary-perm}
+use Rattle.home.specs.CapacitiesLaws.{cells-pos}
 
 -- an entry that 6 bytes hold
 pub record Small (d : Entry) : Type 0 where
   pub tag : d .tag < 4294967296
   pub cell : d .cell < 65536
+
+pub small-entries : (R : ℕ) (ss : List Spot) → R ≤ 1024 → All (λ (s : Spot). Sits (s .class) (s .block)) ss → All (Good (8 * R)) ss → All Small (map entryOf ss)
+small-entries R [] g h k = none
+small-entries R (s ∷ ss) g (more a h) (more b k) = more {x = entryOf s} (record { tag = a .tag; cell = omega (arith, b .inside, cells-pos (s .class)) }) (small-entries R ss g h k)
+
+pub dictionary-small : (R : ℕ) (zs : List Zone) → R ≤ 1024 → Fit (8 * R) 0 0 zs → All Small (dictionary zs)
+dictionary-small R zs g f = pall Small (psym (dictionary-perm zs)) (small-entries R (spots 0 zs) g (spots-sit (8 * R) 0 0 zs f) (spots-good (8 * R) 0 0 zs f))
 
 -- ---- one entry, and the next
 
@@ -39,7 +47,7 @@ module _ (h : List ℕ) (at : ℕ) (d : Entry) (ds : List Entry) (rest : List �
 
 -- ---- all of them
 
-entries-back : (h : List ℕ) (i : ℕ) (ds : List Entry) (rest : List ℕ) → drop (128 + 6 * i) h ≡ entriesBytes ds ++ rest → All Small ds → entriesAt h i (length ds) ≡ ds
+pub entries-back : (h : List ℕ) (i : ℕ) (ds : List Entry) (rest : List ℕ) → drop (128 + 6 * i) h ≡ entriesBytes ds ++ rest → All Small ds → entriesAt h i (length ds) ≡ ds
 unfolding entriesAt
 entries-back h i [] rest e p = refl
 entries-back h i (d ∷ ds) rest e (more p ps) =
@@ -55,13 +63,7 @@ module _ (R : ℕ) (zs : List Zone) (v : Valid (8 * R) zs) (small : R ≤ 1024) 
   home = encode R zs
 
   pub entry-small : (d : Entry) → In d (dictionary zs) → Small d
-  entry-small d i =
-      let m = in-map entryOf d (spots 0 zs) (pin d (dictionary-perm zs) i) in
-      let s : Spot = m .0 in
-      let f : Fit (8 * R) 0 0 zs = fit R zs v in
-      let sit : Sits (s .class) (s .block) = all-in (λ (x : Spot). Sits (x .class) (x .block)) s (spots 0 zs) (spots-sit (8 * R) 0 0 zs f) (m .1) in
-      let in-area : Good (8 * R) s = all-in (Good (8 * R)) s (spots 0 zs) (spots-good (8 * R) 0 0 zs f) (m .1) in
-      subst Small (sym (m .2)) (record { tag = sit .tag; cell = omega (arith, in-area .inside) })
+  entry-small d i = all-in Small d (dictionary zs) (dictionary-small R zs small (fit R zs v)) i
 
   pub tag-count : get16 home 0 ≡ length (blocks zs)
   unfolding encode bytes16 get16
@@ -85,4 +87,4 @@ module _ (R : ℕ) (zs : List Zone) (v : Valid (8 * R) zs) (small : R ≤ 1024) 
 
   pub home-entries : entriesAt home 0 (get16 home 0) ≡ dictionary zs
   home-entries = ap (entriesAt home 0) (tag-count ∙ sym (length-dictionary zs))
-      ∙ entries-back home 0 (dictionary zs) (replicate (1536 - 6 * length (dictionary zs)) 0 ++ area (8 * R) zs) home-dictionary (in-all Small (dictionary zs) entry-small)
+      ∙ entries-back home 0 (dictionary zs) (replicate (1536 - 6 * length (dictionary zs)) 0 ++ area (8 * R) zs) home-dictionary (dictionary-small R zs small (fit R zs v))

@@ -9,16 +9,17 @@ use lib.Dec.{leb, eqb}
 use lib.ListN.{length}
 use borrow.Author.Tests.{le-leb, eqb-true}
 use Rattle.wire.specs.All.{All, none as nil, all-append, all-map, all-head}
+use Rattle.wire.specs.Bytes.{isSome}
 use Rattle.records.specs.declared.Record.{Record}
 use Rattle.home.specs.Zones.{Block, Zone, empty, from, zone, blocks, hasTag, find, replaced, rewritten, takeOut, total, settle, change}
 use Rattle.home.specs.Perm.{sum}
 use Rattle.home.specs.PermLaws.{psym, plength, pall, psum}
-use Rattle.home.specs.Valid.{Sits, Valid}
-use Rattle.home.specs.Cases.{by-pick, isSome, Holds, holds-to}
+use Rattle.home.specs.Valid.{Sits, Valid, Proper}
+use Rattle.home.specs.Cases.{by-pick, Holds, holds-to}
 use Rattle.home.specs.FindLaws.{pfind, find-here, find-none, lacks-has}
 use Rattle.home.specs.PlaceLaws.{Placed}
 use Rattle.home.specs.TakeLaws.{TakenOut, Taken, takeOut-valid, takeOut-taken}
-use Rattle.home.specs.ChangeLaws.{Listed, Open, sits}
+use Rattle.home.specs.ChangeLaws.{Open, sits}
 use Rattle.home.specs.Sizes.{blockSize, totalAfter}
 use Rattle.home.specs.AfreshLaws.{Seated, laid-seated, laid-total, total-sizes, size-some, settle-holds, settle-exactly}
 
@@ -97,8 +98,8 @@ module _ (cells classOf : ℕ → ℕ) (mono : (c : ℕ) → cells c ≤ cells (
   low = omega (arith, laid-total cells classOf n 0 0 zs (v .laid))
 
   -- "Refusal 12 then means only this": for a tag that has a list or none, and any list for it
-  pub change-exactly : (rs : List Record) → Listed rs → isSome (change cells classOf n t rs zs) ≡ leb (totalAfter cells classOf t rs zs) n
-  unfolding change blockSize totalAfter isSome
+  pub change-exactly : (rs : List Record) → Proper rs → isSome (change cells classOf n t rs zs) ≡ leb (totalAfter cells classOf t rs zs) n
+  unfolding change blockSize totalAfter
   change-exactly [] l = sym (le-leb (total cells 0 zs - blockSize cells classOf old + 0) n (omega (arith, low)))
   change-exactly (r ∷ rs) l =
       let b : Block = record { tag = t; list = r ∷ rs } in
@@ -115,7 +116,7 @@ module _ (cells classOf : ℕ → ℕ) (mono : (c : ℕ) → cells c ≤ cells (
       ∙ ap (λ (x : ℕ). leb x n) (omega (arith, none-had i)))
 
   -- and then that is the sum of their sizes
-  pub change-total : (rs : List Record) → Listed rs → Open cells classOf mono pos holds below ordered n t zs v bt rs
+  pub change-total : (rs : List Record) → Proper rs → Open cells classOf mono pos holds below ordered n t zs v bt rs
       → Holds (λ (zs' : List Zone). total cells 0 zs' ≡ totalAfter cells classOf t rs zs) (change cells classOf n t rs zs)
   unfolding change blockSize totalAfter sum
   change-total [] l i = omega (arith, had i .others)

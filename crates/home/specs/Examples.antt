@@ -2,48 +2,68 @@
 use mathlib.Core.Path.{_≡_, refl}
 use mathlib.Core.Bool.{Bool, true, false, not, _&&_}
 use mathlib.Core.List.{List, [], _∷_, _++_}
+use mathlib.Core.Option.{Option·getD}
 use Prim.Native.Nat.{ℕ}
 use lib.ListN.{length, set, replicate}
 use Rattle.wire.specs.Bytes.{part, blank, equal}
+use Rattle.wire.specs.Rules.{first}
 use Rattle.records.specs.declared.Record.{Record}
 use Rattle.records.specs.Records.{key, look, insert, remove, amend, bytesOf, risingFrom, recordAt}
 use Rattle.home.specs.Capacities.{capacity, cells, classOf}
 use Rattle.home.specs.Zones.{Zone, empty, blocks, hasTag, find, rewritten, place, takeOut, settle, change}
+use Rattle.home.specs.Sizes.{totalAfter}
 use Rattle.home.specs.Bytes.{Entry, dictionary, encode, decode, zonesFrom}
 use Rattle.home.specs.Valid.{valid}
 use Rattle.home.specs.Sound.{sound}
-use Rattle.home.specs.Edits.{Answer, count, refused, Edited, put, delete, setMinutes, dropTag}
+use Rattle.home.specs.declared.Answer.{Answer}
+use Rattle.home.specs.declared.Answer.the-variants.{Count, Refused}
+use Rattle.home.specs.Edits.{Edit, put, delete, setMinutes, dropTag}
 
 -- an edit: its tag, and the record with minutes or the key's three numbers
-data Edit : Type 0 where
-  putting : ℕ → ℕ → ℕ → ℕ → ℕ → Edit
-  deleting : ℕ → ℕ → ℕ → ℕ → Edit
-  setting : ℕ → ℕ → ℕ → ℕ → ℕ → Edit
-  dropping : ℕ → Edit
+data Asked : Type 0 where
+  putting : ℕ → ℕ → ℕ → ℕ → ℕ → Asked
+  deleting : ℕ → ℕ → ℕ → ℕ → Asked
+  setting : ℕ → ℕ → ℕ → ℕ → ℕ → Asked
+  dropping : ℕ → Asked
 
 -- a tag, its block's first cell, its class and its record count
 data Shown : Type 0 where
   at : ℕ → ℕ → ℕ → ℕ → Shown
 
 record Row : Type 0 where
-  edit : Edit
+  edit : Asked
   answer : Answer
   after : List Shown
 
 of : ℕ → ℕ → ℕ → ℕ → Record
 of l s p m = record { level = l; second = s; phone = p; minutes = m }
 
-made : ℕ → Edit → List Zone → Edited
+tagOf : Asked → ℕ
+tagOf (putting t l s p m) = t
+tagOf (deleting t l s p) = t
+tagOf (setting t l s p m) = t
+tagOf (dropping t) = t
+
+made : ℕ → Asked → List Zone → Edit
 unfolding of put delete setMinutes dropTag key
 made n (putting t l s p m) zs = put n t (of l s p m) zs
-made n (deleting t l s p) zs = delete n t (key (of l s p 0)) zs
-made n (setting t l s p m) zs = setMinutes n t (key (of l s p 0)) m zs
-made n (dropping t) zs = dropTag n t zs
+made n (deleting t l s p) zs = delete t (key (of l s p 0)) zs
+made n (setting t l s p m) zs = setMinutes t (key (of l s p 0)) m zs
+made n (dropping t) zs = dropTag t zs
+
+-- what an edit answers, and the layout after it
+answer : Edit → Answer
+unfolding first
+answer e = first Refused (e .rules) (Count (length (e .list)))
+
+layout : ℕ → Asked → List Zone → List Zone
+unfolding made tagOf first
+layout n a zs = first (λ r. zs) (made n a zs .rules) (Option·getD (change cells classOf n (tagOf a) (made n a zs .list) zs) zs)
 
 -- answers and what is shown, as numbers
 answered : Answer → List ℕ
-answered (count n) = 0 ∷ n ∷ []
-answered (refused n) = 1 ∷ n ∷ []
+answered (Count n) = 0 ∷ n ∷ []
+answered (Refused n) = 1 ∷ n ∷ []
 
 shown : List Shown → List ℕ
 shown [] = []
@@ -58,51 +78,51 @@ seen zs (x ∷ xs) =
 
 -- do the edits, one after another in an area of so many cells, answer and leave what the rows say
 follow : ℕ → List Zone → List Row → Bool
-unfolding made answered shown seen dictionary equal
+unfolding answer layout answered shown seen dictionary equal
 follow n zs [] = true
 follow n zs (r ∷ rs) =
-    let d : Edited = made n (r .edit) zs in
-    equal (answered (d .answer) ++ seen (d .layout) (dictionary (d .layout))) (answered (r .answer) ++ shown (r .after)) && follow n (d .layout) rs
+    let zs' : List Zone = layout n (r .edit) zs in
+    equal (answered (answer (made n (r .edit) zs)) ++ seen zs' (dictionary zs')) (answered (r .answer) ++ shown (r .after)) && follow n zs' rs
 
 -- "Bench cases", R = 2
 bench : List Row
 bench =
     -- case 1
-    record { edit = putting 7 0 1 0 0; answer = count 1; after = at 7 0 0 1 ∷ [] } ∷
-    record { edit = putting 9 0 1 0 0; answer = count 1; after = at 7 0 0 1 ∷ at 9 5 0 1 ∷ [] } ∷
+    record { edit = putting 7 0 1 0 0; answer = Count 1; after = at 7 0 0 1 ∷ [] } ∷
+    record { edit = putting 9 0 1 0 0; answer = Count 1; after = at 7 0 0 1 ∷ at 9 5 0 1 ∷ [] } ∷
     -- case 2
-    record { edit = putting 7 0 2 0 0; answer = count 2; after = at 7 0 0 2 ∷ at 9 5 0 1 ∷ [] } ∷
-    record { edit = putting 7 0 3 0 0; answer = count 3; after = at 7 0 0 3 ∷ at 9 5 0 1 ∷ [] } ∷
-    record { edit = putting 7 0 4 0 0; answer = count 4; after = at 7 0 0 4 ∷ at 9 5 0 1 ∷ [] } ∷
-    record { edit = putting 7 0 5 0 0; answer = count 5; after = at 7 5 1 5 ∷ at 9 0 0 1 ∷ [] } ∷
+    record { edit = putting 7 0 2 0 0; answer = Count 2; after = at 7 0 0 2 ∷ at 9 5 0 1 ∷ [] } ∷
+    record { edit = putting 7 0 3 0 0; answer = Count 3; after = at 7 0 0 3 ∷ at 9 5 0 1 ∷ [] } ∷
+    record { edit = putting 7 0 4 0 0; answer = Count 4; after = at 7 0 0 4 ∷ at 9 5 0 1 ∷ [] } ∷
+    record { edit = putting 7 0 5 0 0; answer = Count 5; after = at 7 5 1 5 ∷ at 9 0 0 1 ∷ [] } ∷
     -- case 3
-    record { edit = putting 11 0 1 0 0; answer = count 1; after = at 7 10 1 5 ∷ at 9 0 0 1 ∷ at 11 5 0 1 ∷ [] } ∷
+    record { edit = putting 11 0 1 0 0; answer = Count 1; after = at 7 10 1 5 ∷ at 9 0 0 1 ∷ at 11 5 0 1 ∷ [] } ∷
     -- case 4
-    record { edit = putting 13 0 1 0 0; answer = refused 12; after = at 7 10 1 5 ∷ at 9 0 0 1 ∷ at 11 5 0 1 ∷ [] } ∷
+    record { edit = putting 13 0 1 0 0; answer = Refused 12; after = at 7 10 1 5 ∷ at 9 0 0 1 ∷ at 11 5 0 1 ∷ [] } ∷
     -- case 5
-    record { edit = deleting 7 0 3 0; answer = count 4; after = at 7 10 0 4 ∷ at 9 0 0 1 ∷ at 11 5 0 1 ∷ [] } ∷
-    record { edit = putting 13 0 1 0 0; answer = refused 12; after = at 7 10 0 4 ∷ at 9 0 0 1 ∷ at 11 5 0 1 ∷ [] } ∷
+    record { edit = deleting 7 0 3 0; answer = Count 4; after = at 7 10 0 4 ∷ at 9 0 0 1 ∷ at 11 5 0 1 ∷ [] } ∷
+    record { edit = putting 13 0 1 0 0; answer = Refused 12; after = at 7 10 0 4 ∷ at 9 0 0 1 ∷ at 11 5 0 1 ∷ [] } ∷
     -- case 6
-    record { edit = dropping 9; answer = count 0; after = at 7 0 0 4 ∷ at 11 5 0 1 ∷ [] } ∷
-    record { edit = putting 13 0 1 0 0; answer = count 1; after = at 7 0 0 4 ∷ at 11 5 0 1 ∷ at 13 10 0 1 ∷ [] } ∷
+    record { edit = dropping 9; answer = Count 0; after = at 7 0 0 4 ∷ at 11 5 0 1 ∷ [] } ∷
+    record { edit = putting 13 0 1 0 0; answer = Count 1; after = at 7 0 0 4 ∷ at 11 5 0 1 ∷ at 13 10 0 1 ∷ [] } ∷
     -- case 7, after four puts that bring tag 13 to class 1
-    record { edit = putting 13 0 2 0 0; answer = count 2; after = at 7 0 0 4 ∷ at 11 5 0 1 ∷ at 13 10 0 2 ∷ [] } ∷
-    record { edit = putting 13 0 3 0 0; answer = count 3; after = at 7 0 0 4 ∷ at 11 5 0 1 ∷ at 13 10 0 3 ∷ [] } ∷
-    record { edit = putting 13 0 4 0 0; answer = count 4; after = at 7 0 0 4 ∷ at 11 5 0 1 ∷ at 13 10 0 4 ∷ [] } ∷
-    record { edit = putting 13 0 5 0 0; answer = count 5; after = at 7 0 0 4 ∷ at 11 5 0 1 ∷ at 13 10 1 5 ∷ [] } ∷
-    record { edit = dropping 7; answer = count 0; after = at 11 0 0 1 ∷ at 13 10 1 5 ∷ [] } ∷
-    record { edit = dropping 11; answer = count 0; after = at 13 4 1 5 ∷ [] } ∷
+    record { edit = putting 13 0 2 0 0; answer = Count 2; after = at 7 0 0 4 ∷ at 11 5 0 1 ∷ at 13 10 0 2 ∷ [] } ∷
+    record { edit = putting 13 0 3 0 0; answer = Count 3; after = at 7 0 0 4 ∷ at 11 5 0 1 ∷ at 13 10 0 3 ∷ [] } ∷
+    record { edit = putting 13 0 4 0 0; answer = Count 4; after = at 7 0 0 4 ∷ at 11 5 0 1 ∷ at 13 10 0 4 ∷ [] } ∷
+    record { edit = putting 13 0 5 0 0; answer = Count 5; after = at 7 0 0 4 ∷ at 11 5 0 1 ∷ at 13 10 1 5 ∷ [] } ∷
+    record { edit = dropping 7; answer = Count 0; after = at 11 0 0 1 ∷ at 13 10 1 5 ∷ [] } ∷
+    record { edit = dropping 11; answer = Count 0; after = at 13 4 1 5 ∷ [] } ∷
     []
 
 bench-holds : follow 16 (replicate 30 empty) bench ≡ true
-unfolding follow change settle place takeOut rewritten hasTag look insert remove amend cells bench
+unfolding follow change settle place takeOut rewritten hasTag look insert remove amend cells totalAfter bench
 bench-holds = refl
 
 -- the layout after them
 left : ℕ → List Zone → List Row → List Zone
-unfolding made
+unfolding layout
 left n zs [] = zs
-left n zs (r ∷ rs) = left n (made n (r .edit) zs .layout) rs
+left n zs (r ∷ rs) = left n (layout n (r .edit) zs) rs
 
 -- a home with single bytes changed, and whether it is sound
 record Poked : Type 0 where
@@ -126,69 +146,69 @@ judged h (r ∷ rs) = same (r .fine) (sound (poked h (r .pokes))) && judged h rs
 -- the first edits that the model was given with R = 2
 model : List Row
 model =
-    record { edit = setting 0 0 0 2 81; answer = refused 9; after = [] } ∷
-    record { edit = deleting 11 0 2 2; answer = refused 9; after = [] } ∷
-    record { edit = putting 0 0 0 0 23; answer = count 1; after = at 0 0 0 1 ∷ [] } ∷
-    record { edit = deleting 0 1 1 2; answer = refused 9; after = at 0 0 0 1 ∷ [] } ∷
-    record { edit = putting 4294967295 1 2 0 153; answer = count 1; after = at 0 0 0 1 ∷ at 4294967295 5 0 1 ∷ [] } ∷
-    record { edit = putting 9 0 0 0 201; answer = count 1; after = at 0 0 0 1 ∷ at 9 10 0 1 ∷ at 4294967295 5 0 1 ∷ [] } ∷
-    record { edit = putting 7 1 2 2 179; answer = refused 12; after = at 0 0 0 1 ∷ at 9 10 0 1 ∷ at 4294967295 5 0 1 ∷ [] } ∷
-    record { edit = dropping 11; answer = refused 9; after = at 0 0 0 1 ∷ at 9 10 0 1 ∷ at 4294967295 5 0 1 ∷ [] } ∷
-    record { edit = putting 0 0 0 2 48; answer = count 2; after = at 0 0 0 2 ∷ at 9 10 0 1 ∷ at 4294967295 5 0 1 ∷ [] } ∷
-    record { edit = deleting 4294967295 0 0 2; answer = refused 9; after = at 0 0 0 2 ∷ at 9 10 0 1 ∷ at 4294967295 5 0 1 ∷ [] } ∷
-    record { edit = putting 0 0 0 0 185; answer = refused 8; after = at 0 0 0 2 ∷ at 9 10 0 1 ∷ at 4294967295 5 0 1 ∷ [] } ∷
-    record { edit = putting 9 0 2 0 240; answer = count 2; after = at 0 0 0 2 ∷ at 9 10 0 2 ∷ at 4294967295 5 0 1 ∷ [] } ∷
-    record { edit = putting 9 0 0 0 209; answer = refused 8; after = at 0 0 0 2 ∷ at 9 10 0 2 ∷ at 4294967295 5 0 1 ∷ [] } ∷
-    record { edit = deleting 13 1 2 2; answer = refused 9; after = at 0 0 0 2 ∷ at 9 10 0 2 ∷ at 4294967295 5 0 1 ∷ [] } ∷
-    record { edit = putting 0 0 0 2 100; answer = refused 8; after = at 0 0 0 2 ∷ at 9 10 0 2 ∷ at 4294967295 5 0 1 ∷ [] } ∷
-    record { edit = putting 9 1 1 0 115; answer = count 3; after = at 0 0 0 2 ∷ at 9 10 0 3 ∷ at 4294967295 5 0 1 ∷ [] } ∷
-    record { edit = deleting 11 0 2 0; answer = refused 9; after = at 0 0 0 2 ∷ at 9 10 0 3 ∷ at 4294967295 5 0 1 ∷ [] } ∷
-    record { edit = putting 0 0 2 0 75; answer = count 3; after = at 0 0 0 3 ∷ at 9 10 0 3 ∷ at 4294967295 5 0 1 ∷ [] } ∷
-    record { edit = deleting 9 0 0 2; answer = refused 9; after = at 0 0 0 3 ∷ at 9 10 0 3 ∷ at 4294967295 5 0 1 ∷ [] } ∷
-    record { edit = putting 0 0 0 2 23; answer = refused 8; after = at 0 0 0 3 ∷ at 9 10 0 3 ∷ at 4294967295 5 0 1 ∷ [] } ∷
-    record { edit = putting 11 1 0 2 90; answer = refused 12; after = at 0 0 0 3 ∷ at 9 10 0 3 ∷ at 4294967295 5 0 1 ∷ [] } ∷
-    record { edit = putting 13 1 2 0 162; answer = refused 12; after = at 0 0 0 3 ∷ at 9 10 0 3 ∷ at 4294967295 5 0 1 ∷ [] } ∷
-    record { edit = setting 9 1 1 0 59; answer = count 3; after = at 0 0 0 3 ∷ at 9 10 0 3 ∷ at 4294967295 5 0 1 ∷ [] } ∷
-    record { edit = putting 9 0 0 0 99; answer = refused 8; after = at 0 0 0 3 ∷ at 9 10 0 3 ∷ at 4294967295 5 0 1 ∷ [] } ∷
-    record { edit = putting 0 1 2 1 3; answer = count 4; after = at 0 0 0 4 ∷ at 9 10 0 3 ∷ at 4294967295 5 0 1 ∷ [] } ∷
-    record { edit = putting 13 0 0 1 253; answer = refused 12; after = at 0 0 0 4 ∷ at 9 10 0 3 ∷ at 4294967295 5 0 1 ∷ [] } ∷
-    record { edit = putting 7 0 1 2 222; answer = refused 12; after = at 0 0 0 4 ∷ at 9 10 0 3 ∷ at 4294967295 5 0 1 ∷ [] } ∷
-    record { edit = setting 13 1 2 0 213; answer = refused 9; after = at 0 0 0 4 ∷ at 9 10 0 3 ∷ at 4294967295 5 0 1 ∷ [] } ∷
-    record { edit = setting 0 0 2 2 165; answer = refused 9; after = at 0 0 0 4 ∷ at 9 10 0 3 ∷ at 4294967295 5 0 1 ∷ [] } ∷
-    record { edit = deleting 0 1 2 0; answer = refused 9; after = at 0 0 0 4 ∷ at 9 10 0 3 ∷ at 4294967295 5 0 1 ∷ [] } ∷
-    record { edit = putting 0 1 0 2 166; answer = count 5; after = at 0 10 1 5 ∷ at 9 0 0 3 ∷ at 4294967295 5 0 1 ∷ [] } ∷
-    record { edit = dropping 13; answer = refused 9; after = at 0 10 1 5 ∷ at 9 0 0 3 ∷ at 4294967295 5 0 1 ∷ [] } ∷
-    record { edit = putting 4294967295 1 1 0 163; answer = count 2; after = at 0 10 1 5 ∷ at 9 0 0 3 ∷ at 4294967295 5 0 2 ∷ [] } ∷
-    record { edit = putting 9 0 2 1 159; answer = count 4; after = at 0 10 1 5 ∷ at 9 0 0 4 ∷ at 4294967295 5 0 2 ∷ [] } ∷
-    record { edit = putting 11 1 1 2 14; answer = refused 12; after = at 0 10 1 5 ∷ at 9 0 0 4 ∷ at 4294967295 5 0 2 ∷ [] } ∷
-    record { edit = deleting 13 1 1 2; answer = refused 9; after = at 0 10 1 5 ∷ at 9 0 0 4 ∷ at 4294967295 5 0 2 ∷ [] } ∷
-    record { edit = dropping 7; answer = refused 9; after = at 0 10 1 5 ∷ at 9 0 0 4 ∷ at 4294967295 5 0 2 ∷ [] } ∷
-    record { edit = setting 13 1 0 1 70; answer = refused 9; after = at 0 10 1 5 ∷ at 9 0 0 4 ∷ at 4294967295 5 0 2 ∷ [] } ∷
-    record { edit = deleting 0 0 1 2; answer = refused 9; after = at 0 10 1 5 ∷ at 9 0 0 4 ∷ at 4294967295 5 0 2 ∷ [] } ∷
-    record { edit = putting 0 1 2 1 13; answer = refused 8; after = at 0 10 1 5 ∷ at 9 0 0 4 ∷ at 4294967295 5 0 2 ∷ [] } ∷
-    record { edit = deleting 13 0 2 0; answer = refused 9; after = at 0 10 1 5 ∷ at 9 0 0 4 ∷ at 4294967295 5 0 2 ∷ [] } ∷
-    record { edit = putting 11 1 1 2 213; answer = refused 12; after = at 0 10 1 5 ∷ at 9 0 0 4 ∷ at 4294967295 5 0 2 ∷ [] } ∷
-    record { edit = deleting 7 1 2 1; answer = refused 9; after = at 0 10 1 5 ∷ at 9 0 0 4 ∷ at 4294967295 5 0 2 ∷ [] } ∷
-    record { edit = dropping 0; answer = count 0; after = at 9 0 0 4 ∷ at 4294967295 5 0 2 ∷ [] } ∷
-    record { edit = putting 9 1 1 0 186; answer = refused 8; after = at 9 0 0 4 ∷ at 4294967295 5 0 2 ∷ [] } ∷
-    record { edit = putting 9 0 0 2 59; answer = count 5; after = at 9 5 1 5 ∷ at 4294967295 0 0 2 ∷ [] } ∷
-    record { edit = setting 11 0 0 0 94; answer = refused 9; after = at 9 5 1 5 ∷ at 4294967295 0 0 2 ∷ [] } ∷
-    record { edit = deleting 13 0 2 0; answer = refused 9; after = at 9 5 1 5 ∷ at 4294967295 0 0 2 ∷ [] } ∷
-    record { edit = putting 9 0 1 1 193; answer = count 6; after = at 9 5 2 6 ∷ at 4294967295 0 0 2 ∷ [] } ∷
-    record { edit = putting 11 1 0 1 147; answer = refused 12; after = at 9 5 2 6 ∷ at 4294967295 0 0 2 ∷ [] } ∷
+    record { edit = setting 0 0 0 2 81; answer = Refused 9; after = [] } ∷
+    record { edit = deleting 11 0 2 2; answer = Refused 9; after = [] } ∷
+    record { edit = putting 0 0 0 0 23; answer = Count 1; after = at 0 0 0 1 ∷ [] } ∷
+    record { edit = deleting 0 1 1 2; answer = Refused 9; after = at 0 0 0 1 ∷ [] } ∷
+    record { edit = putting 4294967295 1 2 0 153; answer = Count 1; after = at 0 0 0 1 ∷ at 4294967295 5 0 1 ∷ [] } ∷
+    record { edit = putting 9 0 0 0 201; answer = Count 1; after = at 0 0 0 1 ∷ at 9 10 0 1 ∷ at 4294967295 5 0 1 ∷ [] } ∷
+    record { edit = putting 7 1 2 2 179; answer = Refused 12; after = at 0 0 0 1 ∷ at 9 10 0 1 ∷ at 4294967295 5 0 1 ∷ [] } ∷
+    record { edit = dropping 11; answer = Refused 9; after = at 0 0 0 1 ∷ at 9 10 0 1 ∷ at 4294967295 5 0 1 ∷ [] } ∷
+    record { edit = putting 0 0 0 2 48; answer = Count 2; after = at 0 0 0 2 ∷ at 9 10 0 1 ∷ at 4294967295 5 0 1 ∷ [] } ∷
+    record { edit = deleting 4294967295 0 0 2; answer = Refused 9; after = at 0 0 0 2 ∷ at 9 10 0 1 ∷ at 4294967295 5 0 1 ∷ [] } ∷
+    record { edit = putting 0 0 0 0 185; answer = Refused 8; after = at 0 0 0 2 ∷ at 9 10 0 1 ∷ at 4294967295 5 0 1 ∷ [] } ∷
+    record { edit = putting 9 0 2 0 240; answer = Count 2; after = at 0 0 0 2 ∷ at 9 10 0 2 ∷ at 4294967295 5 0 1 ∷ [] } ∷
+    record { edit = putting 9 0 0 0 209; answer = Refused 8; after = at 0 0 0 2 ∷ at 9 10 0 2 ∷ at 4294967295 5 0 1 ∷ [] } ∷
+    record { edit = deleting 13 1 2 2; answer = Refused 9; after = at 0 0 0 2 ∷ at 9 10 0 2 ∷ at 4294967295 5 0 1 ∷ [] } ∷
+    record { edit = putting 0 0 0 2 100; answer = Refused 8; after = at 0 0 0 2 ∷ at 9 10 0 2 ∷ at 4294967295 5 0 1 ∷ [] } ∷
+    record { edit = putting 9 1 1 0 115; answer = Count 3; after = at 0 0 0 2 ∷ at 9 10 0 3 ∷ at 4294967295 5 0 1 ∷ [] } ∷
+    record { edit = deleting 11 0 2 0; answer = Refused 9; after = at 0 0 0 2 ∷ at 9 10 0 3 ∷ at 4294967295 5 0 1 ∷ [] } ∷
+    record { edit = putting 0 0 2 0 75; answer = Count 3; after = at 0 0 0 3 ∷ at 9 10 0 3 ∷ at 4294967295 5 0 1 ∷ [] } ∷
+    record { edit = deleting 9 0 0 2; answer = Refused 9; after = at 0 0 0 3 ∷ at 9 10 0 3 ∷ at 4294967295 5 0 1 ∷ [] } ∷
+    record { edit = putting 0 0 0 2 23; answer = Refused 8; after = at 0 0 0 3 ∷ at 9 10 0 3 ∷ at 4294967295 5 0 1 ∷ [] } ∷
+    record { edit = putting 11 1 0 2 90; answer = Refused 12; after = at 0 0 0 3 ∷ at 9 10 0 3 ∷ at 4294967295 5 0 1 ∷ [] } ∷
+    record { edit = putting 13 1 2 0 162; answer = Refused 12; after = at 0 0 0 3 ∷ at 9 10 0 3 ∷ at 4294967295 5 0 1 ∷ [] } ∷
+    record { edit = setting 9 1 1 0 59; answer = Count 3; after = at 0 0 0 3 ∷ at 9 10 0 3 ∷ at 4294967295 5 0 1 ∷ [] } ∷
+    record { edit = putting 9 0 0 0 99; answer = Refused 8; after = at 0 0 0 3 ∷ at 9 10 0 3 ∷ at 4294967295 5 0 1 ∷ [] } ∷
+    record { edit = putting 0 1 2 1 3; answer = Count 4; after = at 0 0 0 4 ∷ at 9 10 0 3 ∷ at 4294967295 5 0 1 ∷ [] } ∷
+    record { edit = putting 13 0 0 1 253; answer = Refused 12; after = at 0 0 0 4 ∷ at 9 10 0 3 ∷ at 4294967295 5 0 1 ∷ [] } ∷
+    record { edit = putting 7 0 1 2 222; answer = Refused 12; after = at 0 0 0 4 ∷ at 9 10 0 3 ∷ at 4294967295 5 0 1 ∷ [] } ∷
+    record { edit = setting 13 1 2 0 213; answer = Refused 9; after = at 0 0 0 4 ∷ at 9 10 0 3 ∷ at 4294967295 5 0 1 ∷ [] } ∷
+    record { edit = setting 0 0 2 2 165; answer = Refused 9; after = at 0 0 0 4 ∷ at 9 10 0 3 ∷ at 4294967295 5 0 1 ∷ [] } ∷
+    record { edit = deleting 0 1 2 0; answer = Refused 9; after = at 0 0 0 4 ∷ at 9 10 0 3 ∷ at 4294967295 5 0 1 ∷ [] } ∷
+    record { edit = putting 0 1 0 2 166; answer = Count 5; after = at 0 10 1 5 ∷ at 9 0 0 3 ∷ at 4294967295 5 0 1 ∷ [] } ∷
+    record { edit = dropping 13; answer = Refused 9; after = at 0 10 1 5 ∷ at 9 0 0 3 ∷ at 4294967295 5 0 1 ∷ [] } ∷
+    record { edit = putting 4294967295 1 1 0 163; answer = Count 2; after = at 0 10 1 5 ∷ at 9 0 0 3 ∷ at 4294967295 5 0 2 ∷ [] } ∷
+    record { edit = putting 9 0 2 1 159; answer = Count 4; after = at 0 10 1 5 ∷ at 9 0 0 4 ∷ at 4294967295 5 0 2 ∷ [] } ∷
+    record { edit = putting 11 1 1 2 14; answer = Refused 12; after = at 0 10 1 5 ∷ at 9 0 0 4 ∷ at 4294967295 5 0 2 ∷ [] } ∷
+    record { edit = deleting 13 1 1 2; answer = Refused 9; after = at 0 10 1 5 ∷ at 9 0 0 4 ∷ at 4294967295 5 0 2 ∷ [] } ∷
+    record { edit = dropping 7; answer = Refused 9; after = at 0 10 1 5 ∷ at 9 0 0 4 ∷ at 4294967295 5 0 2 ∷ [] } ∷
+    record { edit = setting 13 1 0 1 70; answer = Refused 9; after = at 0 10 1 5 ∷ at 9 0 0 4 ∷ at 4294967295 5 0 2 ∷ [] } ∷
+    record { edit = deleting 0 0 1 2; answer = Refused 9; after = at 0 10 1 5 ∷ at 9 0 0 4 ∷ at 4294967295 5 0 2 ∷ [] } ∷
+    record { edit = putting 0 1 2 1 13; answer = Refused 8; after = at 0 10 1 5 ∷ at 9 0 0 4 ∷ at 4294967295 5 0 2 ∷ [] } ∷
+    record { edit = deleting 13 0 2 0; answer = Refused 9; after = at 0 10 1 5 ∷ at 9 0 0 4 ∷ at 4294967295 5 0 2 ∷ [] } ∷
+    record { edit = putting 11 1 1 2 213; answer = Refused 12; after = at 0 10 1 5 ∷ at 9 0 0 4 ∷ at 4294967295 5 0 2 ∷ [] } ∷
+    record { edit = deleting 7 1 2 1; answer = Refused 9; after = at 0 10 1 5 ∷ at 9 0 0 4 ∷ at 4294967295 5 0 2 ∷ [] } ∷
+    record { edit = dropping 0; answer = Count 0; after = at 9 0 0 4 ∷ at 4294967295 5 0 2 ∷ [] } ∷
+    record { edit = putting 9 1 1 0 186; answer = Refused 8; after = at 9 0 0 4 ∷ at 4294967295 5 0 2 ∷ [] } ∷
+    record { edit = putting 9 0 0 2 59; answer = Count 5; after = at 9 5 1 5 ∷ at 4294967295 0 0 2 ∷ [] } ∷
+    record { edit = setting 11 0 0 0 94; answer = Refused 9; after = at 9 5 1 5 ∷ at 4294967295 0 0 2 ∷ [] } ∷
+    record { edit = deleting 13 0 2 0; answer = Refused 9; after = at 9 5 1 5 ∷ at 4294967295 0 0 2 ∷ [] } ∷
+    record { edit = putting 9 0 1 1 193; answer = Count 6; after = at 9 5 2 6 ∷ at 4294967295 0 0 2 ∷ [] } ∷
+    record { edit = putting 11 1 0 1 147; answer = Refused 12; after = at 9 5 2 6 ∷ at 4294967295 0 0 2 ∷ [] } ∷
     []
 
 model-holds : follow 16 (replicate 30 empty) model ≡ true
-unfolding follow change settle place takeOut rewritten hasTag look insert remove amend cells model
+unfolding follow change settle place takeOut rewritten hasTag look insert remove amend cells totalAfter model
 model-holds = refl
 
 -- the home that the model was given to spoil
 spoiled : List Row
 spoiled =
-    record { edit = putting 7 1 100 9 0; answer = count 1; after = at 7 0 0 1 ∷ [] } ∷
-    record { edit = putting 7 1 100 3 4; answer = count 2; after = at 7 0 0 2 ∷ [] } ∷
-    record { edit = putting 9 0 5 1 2; answer = count 1; after = at 7 0 0 2 ∷ at 9 5 0 1 ∷ [] } ∷
-    record { edit = putting 0 0 5 1 2; answer = count 1; after = at 0 10 0 1 ∷ at 7 0 0 2 ∷ at 9 5 0 1 ∷ [] } ∷
+    record { edit = putting 7 1 100 9 0; answer = Count 1; after = at 7 0 0 1 ∷ [] } ∷
+    record { edit = putting 7 1 100 3 4; answer = Count 2; after = at 7 0 0 2 ∷ [] } ∷
+    record { edit = putting 9 0 5 1 2; answer = Count 1; after = at 7 0 0 2 ∷ at 9 5 0 1 ∷ [] } ∷
+    record { edit = putting 0 0 5 1 2; answer = Count 1; after = at 0 10 0 1 ∷ at 7 0 0 2 ∷ at 9 5 0 1 ∷ [] } ∷
     []
 
 whole : List ℕ
@@ -207,5 +227,5 @@ pokings =
     []
 
 model-judges : judged whole (record { pokes = []; fine = true } ∷ pokings) ≡ true
-unfolding judged whole pokings change settle place takeOut rewritten hasTag look insert remove amend cells sound valid equal decode zonesFrom encode bytesOf risingFrom recordAt classOf find blocks capacity part blank
+unfolding judged whole pokings change settle place takeOut rewritten hasTag look insert remove amend cells totalAfter sound valid equal decode zonesFrom encode bytesOf risingFrom recordAt classOf find blocks capacity part blank
 model-judges = refl

@@ -34,5 +34,6 @@ pub mod EntriesLaws
 pub mod EmptyLaws
 pub mod LookupLaws
 pub mod Lookup
-pub mod LookupTurns
+pub mod LookupLoopLaws
+pub mod TagBlockLaws
 pub mod EndLaws

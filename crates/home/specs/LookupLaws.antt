@@ -115,3 +115,9 @@ entries-few h t =
     let q : get16 h 0 ≡ length (blocks (s .zones)) = subst (λ (x : List ℕ). get16 x 0 ≡ length (blocks (s .zones))) (sym (s .bytes)) (tag-count (s .pages) (s .zones) (s .valid) (s .high)) in
     let l : length h ≡ 64 * (26 + s .pages) = ap length (s .bytes) ∙ length-encode-home (s .pages) (s .zones) (s .valid) in
     (omega (arith, s .valid .few), omega (arith, s .low))
+
+-- a sound home has at most 1,050 pages
+pub sound-short : (h : List ℕ) → sound h ≡ true → length h ≤ 67200
+sound-short h t =
+    let s : Sound h = t-sound h .says t in
+    omega (arith, ap length (s .bytes) ∙ length-encode-home (s .pages) (s .zones) (s .valid), s .high)

@@ -103,6 +103,12 @@ module _ {A : Type 0} where
   pulled x (y ∷ ys) (inr i) = let r = pulled x ys i in (y ∷ r .0, ptrans (pskip y (r .1)) (pswap y x (r .0)))
 
 module _ {A B : Type 0} (f : A → B) where
+  pub pmap : {xs ys : List A} → Perm xs ys → Perm (map f xs) (map f ys)
+  pmap pnil = pnil
+  pmap (pskip x p) = pskip (f x) (pmap p)
+  pmap (pswap x y xs) = pswap (f x) (f y) (map f xs)
+  pmap (ptrans p q) = ptrans (pmap p) (pmap q)
+
   pub in-map : (y : B) (xs : List A) → In y (map f xs) → (x : A) × In x xs × (y ≡ f x)
   in-map y [] i = absurd i
   in-map y (x ∷ xs) (inl e) = (x, inl refl, e)

@@ -31,6 +31,12 @@ unfolding all
 distinct [] = true
 distinct (x ∷ xs) = all (λ (y : Block). not (eqb (x .tag) (y .tag))) xs && distinct xs
 
+-- what a new list has to be
+pub record Proper (rs : List Record) : Type 0 where
+  pub rising : rising rs ≡ true
+  pub fits : All Fits rs
+  pub short : length rs ≤ 989
+
 module _ (cells classOf : ℕ → ℕ) where
   -- a block of class c: "A tag is any 32-bit number"; "every block holds at least one record, its records strictly rising by primary part, and has its zone's class"
   pub record Sits (c : ℕ) (b : Block) : Type 0 where

@@ -1,12 +1,12 @@
 -- The tests of validity say what they should, both ways.
 use mathlib.Core.Path.{_≡_, refl}
-use mathlib.Core.Bool.{Bool, true, false, not, _&&_}
+use mathlib.Core.Bool.{Bool, true, not, _&&_}
 use mathlib.Core.List.{List, [], _∷_}
 use Prim.Native.Nat.{ℕ, suc, _+_, _*_, _≤_, _<_}
 use lib.Dec.{leb, ltb, eqb}
 use lib.ListN.{length}
-use borrow.Author.Tests.{leb-true, le-leb, ltb-true, lt-ltb, eqb-true, eqb-false, eq-eqb, ne-eqb}
-use Rattle.wire.specs.Cases.{both, never}
+use borrow.Author.Tests.{leb-true, le-leb, ltb-true, lt-ltb, eqb-true, eqb-false, eq-eqb, ne-eqb, not-true}
+use Rattle.wire.specs.Cases.{both}
 use Rattle.wire.specs.Bytes.{equal}
 use Rattle.wire.specs.BytesLaws.{equal-is, equal-refl}
 use Rattle.wire.specs.All.{All, none, more, all-head, all-tail}
@@ -55,10 +55,6 @@ t-fits r = t-as
     (λ p. record { level = p .0; second = p .1 .0; phone = p .1 .1 .0; minutes = p .1 .1 .1 })
     (λ p. (p .level, (p .second, (p .phone, p .minutes))))
     (t-and (t-lt (r .level) 256) (t-and (t-lt (r .second) 4294967296) (t-and (t-lt (r .phone) 65536) (t-lt (r .minutes) 256))))
-
-not-true : (b : Bool) → not b ≡ true → b ≡ false
-not-true true e = never e
-not-true false e = refl
 
 t-other : (x y : Block) → Tests (Other x y) (not (eqb (x .tag) (y .tag)))
 t-other x y = record { says = λ t. eqb-false (x .tag) (y .tag) (not-true (eqb (x .tag) (y .tag)) t); when = λ o. rw (ne-eqb (x .tag) (y .tag) o) }

@@ -1,3 +1,9 @@
 // Home: the layout of blocks in zones, its bytes, soundness and lookup.
 pub mod classes;
 pub mod lookup;
+
+// What an edit, a count or a merge answers: a number of records, or refused with its number.
+pub enum Answer {
+    Count(usize),
+    Refused(u8),
+}

@@ -2,18 +2,24 @@
 use crate::classes::cells;
 ghost use mathlib.Core.Path.{_≡_};
 ghost use mathlib.Core.Bool.{true};
-ghost use Prim.Native.Nat.{_≤_, _<_};
+ghost use Prim.Native.Nat.{_+_, _≤_, _<_};
 ghost use lib.ListN.{length};
 ghost use Rattle.wire.specs.Bytes.{get16};
 ghost use Rattle.records.specs.Records.{encode as recordBytes};
 ghost use Rattle.home.specs.Bytes.{firstAt, manyAt, endAt};
 ghost use Rattle.home.specs.Sound.{sound as isSound, listOf};
-ghost use Rattle.home.specs.Lookup.{Ordered, indexOf, slotOf};
+ghost use Rattle.home.specs.Lookup.{Ordered, indexOf, slotOf, slotBlock, blockOf, offsetOf};
 
 // Where a tag stands in the dictionary, or would stand: the entries before it.
 pub enum Slot {
     At(usize),
     Absent(usize),
+}
+
+// A tag's block: its first cell and its record count.
+pub enum TagBlock {
+    Known(usize, usize),
+    Unknown,
 }
 
 // A zone's first cell.
@@ -78,17 +84,35 @@ pub fn find(home: &[u8], tag: u32) -> Slot
     }
 }
 
+// The first cell and the record count of the block to which the i-th entry leads.
+fn block_at(home: &[u8], i: usize) -> TagBlock
+    requires { ⌜ (isSound (now home) ≡ true) × (i < get16 (now home) 0) ⌝ }
+    ensures { λ r. ⌜ r ≡ slotBlock (now (home .entry)) (Slot.At i) ⌝ }
+{
+    let p = wire::get16(home, 128 + 6 * i + 4);
+    let n = wire::get16(home, 1664 + 8 * p + 4);
+    TagBlock::Known(p, n)
+}
+
+// Finds a tag's block.
+pub fn block_of(home: &[u8], tag: u32) -> TagBlock
+    requires { ⌜ isSound (now home) ≡ true ⌝ }
+    ensures { λ r. ⌜ r ≡ blockOf (now (home .entry)) tag ⌝ }
+{
+    match find(home, tag) {
+        Slot::At(i) => block_at(home, i),
+        Slot::Absent(_) => TagBlock::Unknown,
+    }
+}
+
 // The number of a tag's records, 0 for an unknown tag.
 pub fn count(home: &[u8], tag: u32) -> usize
     requires { ⌜ isSound (now home) ≡ true ⌝ }
     ensures { λ r. ⌜ r ≡ length (listOf (now (home .entry)) tag) ⌝ }
 {
-    match find(home, tag) {
-        Slot::At(i) => {
-            let p = wire::get16(home, 128 + 6 * i + 4);
-            wire::get16(home, 1664 + 8 * p + 4)
-        }
-        Slot::Absent(_) => 0,
+    match block_of(home, tag) {
+        TagBlock::Known(_, n) => n,
+        TagBlock::Unknown => 0,
     }
 }
 
@@ -96,14 +120,14 @@ pub fn count(home: &[u8], tag: u32) -> usize
 pub fn list(home: &[u8], tag: u32) -> &[u8]
     requires { ⌜ isSound (now home) ≡ true ⌝ }
     ensures { λ r. ⌜ now r ≡ recordBytes (listOf (now (home .entry)) tag) ⌝ }
+    ensures { λ r. ⌜ (r .ptr .0 ≡ home .entry .ptr .0) × (r .ptr .1 ≡ home .entry .ptr .1 + offsetOf (now (home .entry)) tag) ⌝ }
 {
-    match find(home, tag) {
-        Slot::At(i) => {
-            let p = wire::get16(home, 128 + 6 * i + 4);
+    match block_of(home, tag) {
+        TagBlock::Known(p, n) => {
             let at = 1664 + 8 * p + 8;
-            let end = at + 8 * wire::get16(home, 1664 + 8 * p + 4);
+            let end = at + 8 * n;
             &home[at..end]
         }
-        Slot::Absent(_) => &home[0..0],
+        TagBlock::Unknown => &home[0..0],
     }
 }

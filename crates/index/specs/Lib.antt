@@ -1,9 +1,3 @@
-pub mod Begin
+pub mod Calls
 pub mod BeginLaws
-pub mod Edits
 pub mod CommitLaws
-pub mod Claim
-pub mod Rules
-pub mod RulesLaws
-pub mod Demands
-pub mod Afresh

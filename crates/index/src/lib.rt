@@ -1,99 +1,101 @@
 // The call index: the calls that begin, edit, commit, recover and format.
-use edits::Answer;
-use gates::Gate;
+use gates::Access;
+use gates::Of;
+use home::Answer;
 use log::Outcome;
 use records::Record;
 ghost use mathlib.Core.Path.{_≡_};
+ghost use mathlib.Core.Option.{none};
 ghost use lib.ListN.{length};
 ghost use lib.Dec.{eqb};
+ghost use Rattle.wire.specs.Rules.{refusal, answered, left};
 ghost use Rattle.redo.specs.Image.{home as homeOf};
 ghost use Rattle.log.specs.Calls.{answer, after, formatPlan, recoverPlan, commitPlan};
 ghost use Rattle.home.specs.Sound.{sound as isSound};
 ghost use Rattle.records.specs.Records.{key};
-ghost use Rattle.gates.specs.Gates.{imageGate};
-ghost use Rattle.index.specs.Begin.{beginAnswer, beginSpace};
-ghost use Rattle.index.specs.Edits.{putAnswer, putSpace, deleteAnswer, deleteSpace, setAnswer, setSpace, dropAnswer, dropSpace};
+ghost use Rattle.gates.specs.Gates.{gateRules};
+ghost use Rattle.index.specs.Calls.{beginCall, putCall, deleteCall, setCall, dropCall};
 
 // What begin answers.
 pub enum Begun {
     Done,
-    Unbegun(u8),
+    Refused(u8),
 }
 
 // Copies an image's home to a workspace.
 pub fn begin(image: &[u8], space: &mut [u8]) -> Begun
-    ensures { λ r. ⌜ r ≡ beginAnswer (now (image .entry)) (now (space .entry)) ⌝ }
-    ensures { λ _. ⌜ now (space .exit) ≡ beginSpace (now (image .entry)) (now (space .entry)) ⌝ }
+    ensures { λ r. ⌜ r ≡ answered Begun.Refused (beginCall (now (image .entry)) (now (space .entry))) ⌝ }
+    ensures { λ _. ⌜ now (space .exit) ≡ left (beginCall (now (image .entry)) (now (space .entry))) (now (space .entry)) ⌝ }
 {
-    match gates::image_gate(image) {
-        Gate::Open => {
-            let home = log::home(image);
+    match gates::gate(Of::Image, image) {
+        Access::Open => {
+            let home = gates::home(Of::Image, image);
             if space.len() == home.len() {
                 wire::copy(space, 0, home);
                 Begun::Done
             } else {
-                Begun::Unbegun(6)
+                Begun::Refused(6)
             }
         }
-        Gate::Shut(r) => Begun::Unbegun(r),
+        Access::Refused(r) => Begun::Refused(r),
     }
 }
 
 // Puts a record to a tag's list in a workspace. Refused after 6 and 7: 8, listed already; 10, 989 records; 11, 256 tags; 12, no room.
 pub fn put(space: &mut [u8], tag: u32, r: Record) -> Answer
-    ensures { λ a. ⌜ a ≡ putAnswer (now (space .entry)) tag r ⌝ }
-    ensures { λ _. ⌜ now (space .exit) ≡ putSpace (now (space .entry)) tag r ⌝ }
+    ensures { λ a. ⌜ a ≡ answered Answer.Refused (putCall (now (space .entry)) tag r) ⌝ }
+    ensures { λ _. ⌜ now (space .exit) ≡ left (putCall (now (space .entry)) tag r) (now (space .entry)) ⌝ }
 {
-    match gates::space_gate(space) {
-        Gate::Open => edits::put(space, tag, r),
-        Gate::Shut(n) => Answer::Refused(n),
+    match gates::gate(Of::Space, space) {
+        Access::Open => edits::put(space, tag, r),
+        Access::Refused(n) => Answer::Refused(n),
     }
 }
 
 // Deletes the record with r's level, second and phone from a tag's list. Refused after 6 and 7: 9, no such record.
 pub fn delete(space: &mut [u8], tag: u32, r: Record) -> Answer
-    ensures { λ a. ⌜ a ≡ deleteAnswer (now (space .entry)) tag (key r) ⌝ }
-    ensures { λ _. ⌜ now (space .exit) ≡ deleteSpace (now (space .entry)) tag (key r) ⌝ }
+    ensures { λ a. ⌜ a ≡ answered Answer.Refused (deleteCall (now (space .entry)) tag (key r)) ⌝ }
+    ensures { λ _. ⌜ now (space .exit) ≡ left (deleteCall (now (space .entry)) tag (key r)) (now (space .entry)) ⌝ }
 {
-    match gates::space_gate(space) {
-        Gate::Open => edits::delete(space, tag, records::key_of(r)),
-        Gate::Shut(n) => Answer::Refused(n),
+    match gates::gate(Of::Space, space) {
+        Access::Open => edits::delete(space, tag, records::key_of(r)),
+        Access::Refused(n) => Answer::Refused(n),
     }
 }
 
 // Gives the record with r's level, second and phone r's minutes. Refused after 6 and 7: 9, no such record.
 pub fn set_minutes(space: &mut [u8], tag: u32, r: Record) -> Answer
-    ensures { λ a. ⌜ a ≡ setAnswer (now (space .entry)) tag (key r) (r .minutes) ⌝ }
-    ensures { λ _. ⌜ now (space .exit) ≡ setSpace (now (space .entry)) tag (key r) (r .minutes) ⌝ }
+    ensures { λ a. ⌜ a ≡ answered Answer.Refused (setCall (now (space .entry)) tag (key r) (r .minutes)) ⌝ }
+    ensures { λ _. ⌜ now (space .exit) ≡ left (setCall (now (space .entry)) tag (key r) (r .minutes)) (now (space .entry)) ⌝ }
 {
-    match gates::space_gate(space) {
-        Gate::Open => edits::set_minutes(space, tag, records::key_of(r), r.minutes),
-        Gate::Shut(n) => Answer::Refused(n),
+    match gates::gate(Of::Space, space) {
+        Access::Open => edits::set_minutes(space, tag, records::key_of(r), r.minutes),
+        Access::Refused(n) => Answer::Refused(n),
     }
 }
 
 // Drops a tag with its list. Refused after 6 and 7: 9, no such tag.
 pub fn drop_tag(space: &mut [u8], tag: u32) -> Answer
-    ensures { λ a. ⌜ a ≡ dropAnswer (now (space .entry)) tag ⌝ }
-    ensures { λ _. ⌜ now (space .exit) ≡ dropSpace (now (space .entry)) tag ⌝ }
+    ensures { λ a. ⌜ a ≡ answered Answer.Refused (dropCall (now (space .entry)) tag) ⌝ }
+    ensures { λ _. ⌜ now (space .exit) ≡ left (dropCall (now (space .entry)) tag) (now (space .entry)) ⌝ }
 {
-    match gates::space_gate(space) {
-        Gate::Open => edits::drop_tag(space, tag),
-        Gate::Shut(n) => Answer::Refused(n),
+    match gates::gate(Of::Space, space) {
+        Access::Open => edits::drop_tag(space, tag),
+        Access::Refused(n) => Answer::Refused(n),
     }
 }
 
 // Whether a workspace is as long as the image's home.
 fn as_long(image: &[u8], space: &[u8]) -> bool
-    requires { ⌜ imageGate (now image) ≡ Gate.Open ⌝ }
+    requires { ⌜ refusal (gateRules Of.Image (now image)) ≡ none ⌝ }
     ensures { λ r. ⌜ r ≡ eqb (length (now (space .entry))) (length (homeOf (now (image .entry)))) ⌝ }
 {
-    space.len() == log::home(image).len()
+    space.len() == gates::home(Of::Image, image).len()
 }
 
 // With a right head, mark 0 and a sound home: 6, 7, or the log's commit.
 fn commit_open(image: &mut [u8], space: &[u8], n: usize) -> Outcome
-    requires { ⌜ imageGate (now image) ≡ Gate.Open ⌝ }
+    requires { ⌜ refusal (gateRules Of.Image (now image)) ≡ none ⌝ }
     ensures { λ r. ⌜ r ≡ answer (commitPlan isSound (now (image .entry)) (now (space .entry))) n ⌝ }
     ensures { λ _. ⌜ now (image .exit) ≡ after (commitPlan isSound (now (image .entry)) (now (space .entry))) n (now (image .entry)) ⌝ }
 {
@@ -112,9 +114,9 @@ pub fn commit(image: &mut [u8], space: &[u8], n: usize) -> Outcome
     ensures { λ r. ⌜ r ≡ answer (commitPlan isSound (now (image .entry)) (now (space .entry))) n ⌝ }
     ensures { λ _. ⌜ now (image .exit) ≡ after (commitPlan isSound (now (image .entry)) (now (space .entry))) n (now (image .entry)) ⌝ }
 {
-    match gates::image_gate(image) {
-        Gate::Open => commit_open(image, space, n),
-        Gate::Shut(r) => Outcome::Refused(r),
+    match gates::gate(Of::Image, image) {
+        Access::Open => commit_open(image, space, n),
+        Access::Refused(r) => Outcome::Refused(r),
     }
 }
 

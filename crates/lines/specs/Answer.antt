@@ -5,12 +5,10 @@ use Prim.Native.Nat.{ℕ}
 use lib.Dec.{leb}
 use lib.ListN.{length}
 use Rattle.wire.specs.Bytes.{pick, over}
-use Rattle.records.specs.declared.Record.{Record}
-use Rattle.redo.specs.Image.{home}
-use Rattle.home.specs.Sound.{listOf}
-use Rattle.edits.specs.declared.Answer.{Answer}
-use Rattle.edits.specs.declared.Answer.the-variants.{Count, Refused}
-use Rattle.reads.specs.Reads.{countImage}
+use Rattle.wire.specs.Rules.{first}
+use Rattle.gates.specs.declared.Of.the-variants.{Image}
+use Rattle.gates.specs.Gates.{gateRules}
+use Rattle.reads.specs.Reads.{listIn}
 use Rattle.parse.specs.declared.Word.{Word}
 use Rattle.parse.specs.declared.Word.the-variants.{Put, Del, Set, Drop, Show}
 use Rattle.parse.specs.declared.Command.{Command}
@@ -30,11 +28,9 @@ unfolding okLine noLine
 replyLine Fine = okLine
 replyLine (No n) = noLine n
 
--- the answer to `list`, by what a count of the list answers
-unfoldable pub listing : Answer → ℕ → List Record → List ℕ
-unfolding listLines noLine
-listing (Count n) t rs = listLines t rs
-listing (Refused n) t rs = noLine n
+-- the answer to `list`: the refusal of an image lent to a read, or the list
+unfoldable pub listText : List ℕ → ℕ → List ℕ
+listText l t = first noLine (gateRules Image l) (listLines t (listIn Image l t))
 
 unfoldable pub isShow : Word → Bool
 isShow Put = false
@@ -45,8 +41,8 @@ isShow Show = true
 
 -- what a command prints, of an image l and a workspace w
 unfoldable pub commandText : List ℕ → List ℕ → Command → List ℕ
-unfolding isShow listing replyLine
-commandText l w c = pick (isShow (c .word)) (listing (countImage l (c .tag)) (c .tag) (listOf (home l) (c .tag))) (replyLine (replyOf l w c))
+unfolding isShow listText replyLine
+commandText l w c = pick (isShow (c .word)) (listText l (c .tag)) (replyLine (replyOf l w c))
 
 -- and leaves
 unfoldable pub commandImage : List ℕ → List ℕ → Command → List ℕ

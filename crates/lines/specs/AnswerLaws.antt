@@ -1,53 +1,64 @@
 -- A line's answer, step by step.
-use mathlib.Core.Path.{_≡_, refl, ap}
+use mathlib.Core.Path.{_≡_, refl, sym, ap, _∙_}
 use mathlib.Core.Bool.{true, false}
 use mathlib.Core.List.{List}
+use mathlib.Core.Option.{none}
 use Prim.Native.Nat.{ℕ, _/_, _≤_, _<_}
 use native.Mathlib.Omega.{arith}
 use lib.ListN.{length}
 use borrow.Author.Tests.{le-leb, lt-leb}
 use Rattle.wire.specs.Bytes.{over}
-use Rattle.records.specs.Records.{encode as recordBytes, decode as recordsIn}
+use Rattle.wire.specs.Rules.{refusal}
+use Rattle.wire.specs.RulesLaws.{first-map, unrefused}
+use Rattle.records.specs.Records.{decode as recordsIn}
 use Rattle.records.specs.Edits.{length-encode}
-use Rattle.redo.specs.Image.{home}
-use Rattle.home.specs.Sound.{sound, listOf}
-use Rattle.edits.specs.declared.Answer.the-variants.{Count}
-use Rattle.gates.specs.declared.Gate.{Gate}
-use Rattle.gates.specs.declared.Gate.the-variants.{Open, Shut}
-use Rattle.gates.specs.Gates.{imageGate}
-use Rattle.gates.specs.GatesLaws.{image-open}
-use Rattle.reads.specs.Reads.{counted, shown, countImage, showImage}
+use Rattle.home.specs.declared.Answer.{Answer}
+use Rattle.home.specs.declared.Answer.the-variants.{Count, Refused}
+use Rattle.gates.specs.declared.Of.the-variants.{Image}
+use Rattle.gates.specs.Gates.{gateRules, homeIn}
+use Rattle.gates.specs.GatesLaws.{home-fine}
+use Rattle.reads.specs.Reads.{listIn, countIn, showIn}
+use Rattle.reads.specs.ReadsLaws.{show-open}
 use Rattle.reads.specs.MergesLaws.{sound-listed, list-reads}
 use Rattle.parse.specs.declared.Command.{Command}
+use Rattle.print.specs.Print.{listLines, noLine}
 use Rattle.lines.specs.declared.Printed.the-variants.{Bytes, Short}
 use Rattle.parse.specs.Grammar.{parsed}
 use Rattle.lines.specs.Run.{replyOf, imageOf, leftOf}
-use Rattle.lines.specs.Answer.{replyLine, listing, isShow, commandText, commandImage, commandSpace, lineText, lineImage, lineSpace, printedOf, outOf, imageAfter, spaceAfter}
+use Rattle.lines.specs.Answer.{replyLine, listText, isShow, commandText, commandImage, commandSpace, lineText, lineImage, lineSpace, printedOf, outOf, imageAfter, spaceAfter}
 
 -- ---- a list shown
+
+-- the text by what a count of the list answers
+module _ (l : List ℕ) (t : ℕ) where
+  abbrev listing : Answer → List ℕ
+  listing (Count n) = listLines t (listIn Image l t)
+  listing (Refused n) = noLine n
+
+  pub listing-is : (a : Answer) → countIn Image l t ≡ a → listing a ≡ listText l t
+  unfolding countIn listText
+  listing-is a e = ap listing (sym e) ∙ first-map listing Refused (gateRules Image l) (Count (length (listIn Image l t)))
 
 -- an image whose list was counted is open, and shows it
 pub record Shows (l bs : List ℕ) (t : ℕ) : Type 0 where
   pub short : length bs / 8 ≤ 989
-  pub list : recordsIn bs ≡ listOf (home l) t
+  pub text : listLines t (recordsIn bs) ≡ listText l t
 
-pub counted-shows : (l bs : List ℕ) (t n : ℕ) → countImage l t ≡ Count n → bs ≡ showImage l t → Shows l bs t
-unfolding countImage showImage counted shown
-counted-shows l bs t n e s = go (imageGate l) refl e s
-  where
-    go : (g : Gate) → imageGate l ≡ g → counted g (length (listOf (home l) t)) ≡ Count n → bs ≡ shown g (recordBytes (listOf (home l) t)) → Shows l bs t
-    go (Shut r) q f b = let z : _≡_ {A = ℕ} 0 1 = cc in absurd (omega arith)
-    go Open q f b =
-        let ok : sound (home l) ≡ true = image-open l q .fine in
-        record {
-          short = omega (arith, ap length b, length-encode (listOf (home l) t), sound-listed (home l) t ok .short);
-          list = list-reads (home l) t bs ok b;
-        }
+pub counted-shows : (l bs : List ℕ) (t n : ℕ) → countIn Image l t ≡ Count n → bs ≡ showIn Image l t → Shows l bs t
+unfolding countIn
+counted-shows l bs t n e s =
+    let q : refusal (gateRules Image l) ≡ none = unrefused Refused (gateRules Image l) _ (Count n) (λ m f. let z : _≡_ {A = ℕ} 0 1 = cc in omega arith) e in
+    let b = s ∙ show-open Image l t q in
+    let fine = home-fine Image l q in
+    record {
+      short = omega (arith, ap length b, length-encode (listIn Image l t), sound-listed (homeIn Image l) t fine .short);
+      text = ap (listLines t) (list-reads (homeIn Image l) t bs fine b) ∙ listing-is l t (Count n) e;
+    }
 
 -- ---- a command
 
 module _ (l w : List ℕ) (c : Command) where
-  pub command-list : isShow (c .word) ≡ true → (commandText l w c ≡ listing (countImage l (c .tag)) (c .tag) (listOf (home l) (c .tag))) × ((l ≡ commandImage l w c) × (w ≡ commandSpace l w c))
+  pub command-list : isShow (c .word) ≡ true → (commandText l w c ≡ listText l (c .tag)) × ((l ≡ commandImage l w c) × (w ≡ commandSpace l w c))
   unfolding commandText commandImage commandSpace
   command-list e = rw e (refl, (refl, refl))
 

@@ -1,39 +1,30 @@
 -- An edit that a line names, made and committed.
-use mathlib.Core.List.{List}
+use mathlib.Core.List.{List, []}
 use Prim.Native.Nat.{ℕ}
+use Rattle.wire.specs.Rules.{Ruled, answered, left}
 use Rattle.records.specs.declared.Record.{Record}
 use Rattle.records.specs.Records.{key}
+use Rattle.redo.specs.Image.{home}
 use Rattle.log.specs.declared.Outcome.{Outcome}
 use Rattle.log.specs.declared.Outcome.the-variants.{Done, Cut, Refused}
-use Rattle.log.specs.Calls.{Plan, answer, after, commitPlan}
+use Rattle.log.specs.Calls.{Plan, refuse, answer, after, commitPlan}
 use Rattle.home.specs.Sound.{sound}
-use Rattle.edits.specs.declared.Answer.{Answer}
-use Rattle.edits.specs.declared.Answer.the-variants.{Count, Refused as Unedited}
-use Rattle.index.specs.declared.Begun.{Begun}
-use Rattle.index.specs.declared.Begun.the-variants.{Done as Begin, Unbegun}
-use Rattle.index.specs.Begin.{beginAnswer, beginSpace}
-use Rattle.index.specs.Edits.{putAnswer, putSpace, deleteAnswer, deleteSpace, setAnswer, setSpace, dropAnswer, dropSpace}
+use Rattle.home.specs.declared.Answer.{Answer}
+use Rattle.home.specs.declared.Answer.the-variants.{Count, Refused as NotEdited}
+use Rattle.index.specs.Calls.{beginCall, putCall, deleteCall, setCall, dropCall}
 use Rattle.parse.specs.declared.Word.{Word}
 use Rattle.parse.specs.declared.Word.the-variants.{Put, Del, Set, Drop, Show}
 use Rattle.lines.specs.declared.Reply.{Reply}
 use Rattle.lines.specs.declared.Reply.the-variants.{Fine, No}
 use Rattle.parse.specs.declared.Command.{Command}
 
--- ---- a workspace edited; `list` changes nothing
-
-unfoldable pub editAnswer : Word → List ℕ → ℕ → Record → Answer
-editAnswer Put w t r = putAnswer w t r
-editAnswer Del w t r = deleteAnswer w t (key r)
-editAnswer Set w t r = setAnswer w t (key r) (r .minutes)
-editAnswer Drop w t r = dropAnswer w t
-editAnswer Show w t r = Count 0
-
-unfoldable pub editSpace : Word → List ℕ → ℕ → Record → List ℕ
-editSpace Put w t r = putSpace w t r
-editSpace Del w t r = deleteSpace w t (key r)
-editSpace Set w t r = setSpace w t (key r) (r .minutes)
-editSpace Drop w t r = dropSpace w t
-editSpace Show w t r = w
+-- the edit of a workspace; `list` changes nothing
+unfoldable pub editOf : Word → List ℕ → ℕ → Record → Ruled Answer
+editOf Put w t r = putCall w t r
+editOf Del w t r = deleteCall w t (key r)
+editOf Set w t r = setCall w t (key r) (r .minutes)
+editOf Drop w t r = dropCall w t
+editOf Show w t r = record { rules = []; answer = Count 0; bytes = w }
 
 -- ---- "Each edit is committed": with more stores allowed than any commit needs
 
@@ -46,39 +37,26 @@ outcomeReply (Done n) = Fine
 outcomeReply (Cut n) = No 0
 outcomeReply (Refused n) = No n
 
--- by what the edit answers, and what begin answers
-unfoldable pub editReply : Answer → Plan → Reply
-unfolding outcomeReply
-editReply (Count n) p = outcomeReply (answer p plenty)
-editReply (Unedited n) p = No n
+abbrev pub planReply : Plan → Reply
+planReply p = outcomeReply (answer p plenty)
 
-unfoldable pub editImage : Answer → Plan → List ℕ → List ℕ
-editImage (Count n) p l = after p plenty l
-editImage (Unedited n) p l = l
+-- a commit by what the edit answers
+unfoldable pub unlessRefused : Answer → Plan → Plan
+unlessRefused (Count n) p = p
+unlessRefused (NotEdited n) p = refuse n
 
-unfoldable pub begunReply : Begun → Reply → Reply
-begunReply Begin x = x
-begunReply (Unbegun n) x = No n
-
-unfoldable pub begunBytes : Begun → List ℕ → List ℕ → List ℕ
-begunBytes Begin bs old = bs
-begunBytes (Unbegun n) bs old = old
-
--- the workspace that the edit works on, and leaves
-abbrev pub spaceOf : List ℕ → List ℕ → Command → List ℕ
-spaceOf l w c = editSpace (c .word) (beginSpace l w) (c .tag) (c .call)
-
-abbrev pub answerOf : List ℕ → List ℕ → Command → Answer
-answerOf l w c = editAnswer (c .word) (beginSpace l w) (c .tag) (c .call)
+-- home begun in a workspace and edited there: what is to be committed, and what the workspace holds
+abbrev pub runOf : List ℕ → List ℕ → Command → Ruled Plan
+runOf l w c =
+    let e : Ruled Answer = editOf (c .word) (home l) (c .tag) (c .call) in
+    let edited : List ℕ = left e (home l) in
+    record { rules = beginCall l w .rules; answer = unlessRefused (answered NotEdited e) (commitPlan sound l edited); bytes = edited }
 
 unfoldable pub replyOf : List ℕ → List ℕ → Command → Reply
-unfolding editReply begunReply editAnswer editSpace
-replyOf l w c = begunReply (beginAnswer l w) (editReply (answerOf l w c) (commitPlan sound l (spaceOf l w c)))
+replyOf l w c = planReply (answered refuse (runOf l w c))
 
 unfoldable pub imageOf : List ℕ → List ℕ → Command → List ℕ
-unfolding editImage begunBytes editAnswer editSpace
-imageOf l w c = begunBytes (beginAnswer l w) (editImage (answerOf l w c) (commitPlan sound l (spaceOf l w c)) l) l
+imageOf l w c = after (answered refuse (runOf l w c)) plenty l
 
 unfoldable pub leftOf : List ℕ → List ℕ → Command → List ℕ
-unfolding begunBytes editSpace
-leftOf l w c = begunBytes (beginAnswer l w) (spaceOf l w c) w
+leftOf l w c = left (runOf l w c) w

@@ -2,7 +2,8 @@
 use crate::Printed;
 use crate::Reply;
 use crate::run::run;
-use edits::Answer;
+use gates::Of;
+use home::Answer;
 use parse::Command;
 use parse::Parsed;
 use parse::Word;
@@ -15,11 +16,8 @@ ghost use mathlib.Core.Path.{_≡_};
 ghost use Prim.Native.Nat.{_≤_};
 ghost use lib.ListN.{length};
 ghost use Rattle.wire.specs.Bytes.{over};
-ghost use Rattle.redo.specs.Image.{home as homeOf};
-ghost use Rattle.home.specs.Sound.{listOf};
-ghost use Rattle.reads.specs.Reads.{countImage};
 ghost use Rattle.parse.specs.Grammar.{parsed};
-ghost use Rattle.lines.specs.Answer.{replyLine, listing, isShow, commandText, commandImage, commandSpace, lineText, lineImage, lineSpace, printedOf, outOf, imageAfter, spaceAfter};
+ghost use Rattle.lines.specs.Answer.{replyLine, listText, isShow, commandText, commandImage, commandSpace, lineText, lineImage, lineSpace, printedOf, outOf, imageAfter, spaceAfter};
 
 fn is_list(word: Word) -> bool
     ensures { λ r. ⌜ r ≡ isShow word ⌝ }
@@ -47,11 +45,11 @@ fn put_reply(out: &mut [u8], r: Reply) -> usize
 // Prints a tag's list in an image, or its refusal.
 fn put_listing(image: &[u8], tag: u32, out: &mut [u8]) -> usize
     requires { ⌜ 24745 ≤ length (now out) ⌝ }
-    ensures { λ n. ⌜ (now (out .exit) ≡ over (now (out .entry)) 0 (listing (countImage (now (image .entry)) tag) tag (listOf (homeOf (now (image .entry))) tag))) × (n ≡ length (listing (countImage (now (image .entry)) tag) tag (listOf (homeOf (now (image .entry))) tag))) × (n ≤ 24745) ⌝ }
+    ensures { λ n. ⌜ (now (out .exit) ≡ over (now (out .entry)) 0 (listText (now (image .entry)) tag)) × (n ≡ length (listText (now (image .entry)) tag)) × (n ≤ 24745) ⌝ }
 {
-    match reads::count_image(image, tag) {
+    match reads::count(Of::Image, image, tag) {
         Answer::Count(_) => {
-            let list = reads::show_image(image, tag);
+            let list = reads::show(Of::Image, image, tag);
             put_list(out, tag, list)
         }
         Answer::Refused(n) => put_no(out, n),

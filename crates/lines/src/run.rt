@@ -1,20 +1,21 @@
 // Edits made and committed.
 use crate::Reply;
-use edits::Answer;
+use home::Answer;
 use index::Begun;
 use log::Outcome;
 use parse::Command;
 use parse::Word;
 use records::Record;
 ghost use mathlib.Core.Path.{_≡_};
-ghost use Rattle.log.specs.Calls.{commitPlan};
+ghost use Rattle.wire.specs.Rules.{answered, left};
+ghost use Rattle.log.specs.Calls.{after, commitPlan};
 ghost use Rattle.home.specs.Sound.{sound};
-ghost use Rattle.lines.specs.Run.{editAnswer, editSpace, outcomeReply, editReply, editImage, replyOf, imageOf, leftOf};
+ghost use Rattle.lines.specs.Run.{editOf, plenty, outcomeReply, planReply, unlessRefused, replyOf, imageOf, leftOf};
 
 // Edits a workspace as the word says.
 fn edit(space: &mut [u8], word: Word, tag: u32, call: Record) -> Answer
-    ensures { λ a. ⌜ a ≡ editAnswer word (now (space .entry)) tag call ⌝ }
-    ensures { λ _. ⌜ now (space .exit) ≡ editSpace word (now (space .entry)) tag call ⌝ }
+    ensures { λ a. ⌜ a ≡ answered Answer.Refused (editOf word (now (space .entry)) tag call) ⌝ }
+    ensures { λ _. ⌜ now (space .exit) ≡ left (editOf word (now (space .entry)) tag call) (now (space .entry)) ⌝ }
 {
     match word {
         Word::Put => index::put(space, tag, call),
@@ -37,8 +38,8 @@ fn reply_of(o: Outcome) -> Reply
 
 // Commits an edited workspace, unless the edit was refused.
 fn keep(image: &mut [u8], space: &[u8], a: Answer) -> Reply
-    ensures { λ r. ⌜ r ≡ editReply a (commitPlan sound (now (image .entry)) (now (space .entry))) ⌝ }
-    ensures { λ _. ⌜ now (image .exit) ≡ editImage a (commitPlan sound (now (image .entry)) (now (space .entry))) (now (image .entry)) ⌝ }
+    ensures { λ r. ⌜ r ≡ planReply (unlessRefused a (commitPlan sound (now (image .entry)) (now (space .entry)))) ⌝ }
+    ensures { λ _. ⌜ now (image .exit) ≡ after (unlessRefused a (commitPlan sound (now (image .entry)) (now (space .entry)))) plenty (now (image .entry)) ⌝ }
 {
     match a {
         Answer::Count(_) => {
@@ -60,6 +61,6 @@ pub fn run(image: &mut [u8], space: &mut [u8], c: Command) -> Reply
             let a = edit(space, word, c.tag, c.call);
             keep(image, space, a)
         }
-        Begun::Unbegun(n) => Reply::No(n),
+        Begun::Refused(n) => Reply::No(n),
     }
 }

@@ -8,13 +8,13 @@ use Prim.Native.Nat.{ℕ, _+_, _*_, _/_, _<_}
 use native.Mathlib.Omega.{arith}
 use lib.ListN.{length}
 use borrow.Author.Tests.{eq-eqb}
-use Rattle.wire.specs.Bytes.{pick, over}
+use Rattle.wire.specs.Bytes.{pick, over, isSome}
 use Rattle.wire.specs.All.{more}
 use Rattle.wire.specs.Cases.{never}
 use Rattle.records.specs.declared.Record.{Record}
 use Rattle.records.specs.Records.{encode as recordBytes, decode as recordsIn}
 use Rattle.records.specs.Edits.{length-encode, decode-encode}
-use Rattle.home.specs.Cases.{isSome, Holds}
+use Rattle.home.specs.Cases.{Holds}
 use Rattle.home.specs.Capacities.{cells, classOf}
 use Rattle.home.specs.CapacitiesLaws.{cells-pos}
 use Rattle.home.specs.Zones.{Block, Zone, zone, blocks, hasTag, find, takeOut, rewritten, settle, change as changeBy}
@@ -22,18 +22,18 @@ use Rattle.home.specs.Layout.{change}
 use Rattle.home.specs.FindLaws.{Lacks, has-skip}
 use Rattle.home.specs.PermLaws.{plength}
 use Rattle.home.specs.TakeLaws.{Taken, TakenOut, takeOut-taken, takeOut-valid}
-use Rattle.home.specs.ChangeLaws.{Changed, Listed as Proper}
+use Rattle.home.specs.ChangeLaws.{Changed}
 use Rattle.home.specs.EditsLaws.{changed as holds-changed, free-any}
 use Rattle.home.specs.HomeLaws.{all-mem}
 use Rattle.home.specs.Bytes.{encode, decode, blockBytes, cellAt}
 use Rattle.home.specs.Sound.{sound, pagesOf, listOf}
 use Rattle.home.specs.SoundLaws.{sound-encode}
-use Rattle.moves.specs.HomeLaws.{Loose}
 use Rattle.moves.specs.StepLaws.{home-list-set}
-use Rattle.moves.specs.Stored.{settled}
+use Rattle.moves.specs.Stored.{settled, Loose}
 use Rattle.moves.specs.CloseLaws.{decode-loose, pages-loose}
 use Rattle.home.specs.Afresh.{justBefore}
 use Rattle.home.specs.AfreshLaws.{change-settles}
+use Rattle.home.specs.Valid.{Proper}
 use Rattle.zones.specs.SoundLaws.{valid-loose, sound-small, sound-some, sound-valid}
 use Rattle.zones.specs.Known.{Known}
 use Rattle.zones.specs.KnownLaws.{rewritten-there}
@@ -66,7 +66,7 @@ list-read rs ok bs e = ap recordsIn e ∙ decode-encode rs (all-mem rs (ok .fits
 
 -- where there is a layout, the old bytes do not matter
 settled-any : (R : ℕ) (h h' : List ℕ) (o : Option (List Zone)) → isSome o ≡ true → settled R h o ≡ settled R h' o
-unfolding settled isSome
+unfolding settled
 settled-any R h h' none i = never i
 settled-any R h h' (some zs) i = refl
 

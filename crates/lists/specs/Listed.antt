@@ -5,25 +5,22 @@ use mathlib.Core.Logic.{_≢_}
 use mathlib.Core.List.{List, _++_}
 use Prim.Native.Nat.{ℕ, suc, _*_, _<_}
 use lib.ListN.{length, take, drop}
+use Rattle.wire.specs.Bytes.{isSome}
 use Rattle.records.specs.declared.Record.{Record}
 use Rattle.records.specs.Records.{Fits, key, look, held, rank, encode as recordBytes}
-use Rattle.home.specs.Cases.{isSome}
 use Rattle.home.specs.Capacities.{classOf}
 use Rattle.home.specs.Layout.{change}
-use Rattle.home.specs.ChangeLaws.{Listed as Proper}
-use Rattle.home.specs.Bytes.{decode, countAt, placeAt}
+use Rattle.home.specs.Bytes.{decode}
 use Rattle.home.specs.Sound.{sound, pagesOf, listOf}
-use Rattle.home.specs.declared.lookup.Slot.the-variants.{At}
-use Rattle.home.specs.Lookup.{slotOf}
+use Rattle.home.specs.declared.lookup.TagBlock.the-variants.{Known}
+use Rattle.home.specs.Lookup.{blockOf}
+use Rattle.home.specs.Valid.{Proper}
 use Rattle.moves.specs.Stored.{settled}
 
 -- a sound home in which tag t has a block of n records at cell p
 pub record Listed (h : List ℕ) (t p n : ℕ) : Type 0 where
   pub sound : sound h ≡ true
-  pub entry : ℕ
-  pub slot : slotOf h t ≡ At entry
-  pub cell : p ≡ placeAt h entry
-  pub count : n ≡ countAt h p
+  pub block : blockOf h t ≡ Known p n
 
 -- a record that is not among them would have rank j there
 pub record Placed (h : List ℕ) (t p n j : ℕ) (r : Record) : Type 0 where

@@ -12,16 +12,12 @@ use Rattle.wire.specs.BytesLaws.{part-of}
 use Rattle.home.specs.Capacities.{classOf}
 use Rattle.home.specs.CapacitiesLaws.{cells-most}
 use Rattle.home.specs.Zones.{Zone, blocks, hasTag, find}
-use Rattle.home.specs.Bytes.{decode, countAt, placeAt}
-use Rattle.home.specs.declared.lookup.Slot.the-variants.{At}
-use Rattle.home.specs.Lookup.{slotOf}
-use Rattle.home.specs.LookupLaws.{entry-held}
-use Rattle.home.specs.LookupTurns.{sound-ordered, slot-at}
+use Rattle.home.specs.Bytes.{decode, listAt}
+use Rattle.home.specs.TagBlockLaws.{Entered, block-entered}
 use Rattle.home.specs.Sound.{sound, pagesOf, listOf}
 use Rattle.zones.specs.Known.{Known}
 use Rattle.zones.specs.KnownLaws.{find-there}
 use Rattle.zones.specs.BlockLaws.{Lying, known-lying, slot-has, slot-known}
-use Rattle.lists.specs.Lists.{listAt}
 use Rattle.lists.specs.ListsLaws.{block-list}
 use Rattle.lists.specs.Listed.{Listed}
 
@@ -34,11 +30,14 @@ module _ (h : List ℕ) (t p n : ℕ) (l : Listed h t p n) where
   abbrev list : List Record
   list = listOf h t
 
+  entered : Entered h t p n
+  entered = block-entered h t p n (l .block)
+
   pub listed-has : hasTag t (blocks (decode h)) ≡ true
-  listed-has = slot-has h (l .sound) t (l .entry) (l .slot)
+  listed-has = slot-has h (l .sound) t (entered .entry) (entered .slot)
 
   pub listed-known : Known (pagesOf h) h (decode h) t (classOf n) p
-  listed-known = rw (l .count, l .cell) (slot-known h (l .sound) t (l .entry) (l .slot))
+  listed-known = rw (entered .count, entered .cell) (slot-known h (l .sound) t (entered .entry) (entered .slot))
 
   pub listed-lying : Lying h (classOf n) p (record { tag = t; list = list })
   unfolding listOf
@@ -49,7 +48,7 @@ module _ (h : List ℕ) (t p n : ℕ) (l : Listed h t p n) where
       subst (Lying h (classOf n) p) same (known-lying (pagesOf h) h (decode h) t (classOf n) p k)
 
   pub listed-many : n ≡ length list
-  listed-many = l .count ∙ listed-lying .count
+  listed-many = entered .count ∙ listed-lying .count
 
   -- it has a record, and at most 989
   pub listed-some : 0 < n
@@ -63,18 +62,6 @@ module _ (h : List ℕ) (t p n : ℕ) (l : Listed h t p n) where
 
   pub listed-records : records h (listAt p) n ≡ list
   listed-records = ap (records h (listAt p)) listed-many ∙ block-list h p (classOf n) (record { tag = t; list = list }) (listed-lying .sits) (listed-lying .bytes) (listed-lying .inside)
-
--- ---- found by the dictionary
-
-module _ (h : List ℕ) (t i : ℕ) (s : sound h ≡ true) (e : slotOf h t ≡ At i) where
-  pub entry-under : (i < 256) × (1664 ≤ length h)
-  entry-under = let o = sound-ordered h s in (omega (arith, o .few, slot-at h t i o e .0), o .long)
-
-  pub cell-inside : (p : ℕ) → p ≡ placeAt h i → listAt p ≤ length h
-  cell-inside p q = omega (arith, q, entry-held h i s (slot-at h t i (sound-ordered h s) e .0) .inside)
-
-  pub entry-listed : (p n : ℕ) → p ≡ placeAt h i → n ≡ countAt h p → Listed h t p n
-  entry-listed p n q c = record { sound = s; entry = i; slot = e; cell = q; count = c }
 
 -- the records of a part of home
 pub part-records : (h : List ℕ) (at n : ℕ) → at + 8 * n ≤ length h → recordsIn (take (at + 8 * n - at) (drop at h)) ≡ records h at n

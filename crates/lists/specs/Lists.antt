@@ -6,11 +6,7 @@ use Rattle.wire.specs.Bytes.{part, over, bytes16}
 use Rattle.records.specs.declared.Record.{Record}
 use Rattle.records.specs.Records.{bytesOf, amended}
 use Rattle.home.specs.Zones.{Block}
-use Rattle.home.specs.Bytes.{cellAt}
-
--- where the records start
-abbrev pub listAt : ℕ → ℕ
-listAt p = cellAt p + 8
+use Rattle.home.specs.Bytes.{cellAt, listAt}
 
 -- a block with another list
 abbrev pub holding : Block → List Record → Block

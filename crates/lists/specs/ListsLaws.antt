@@ -8,7 +8,7 @@ use native.Mathlib.Nat.{add-zero}
 use lib.ListN.{length, take, drop, set, getD, replicate, length-append, length-replicate, replicate-append-replicate, length-take, length-drop, take-append-drop, drop-of-length-le}
 use lib.Seq.{drop-drop, split-at, set-split, length-take-le}
 use Rattle.wire.specs.Bytes.{part, over, bytes16, bytes32}
-use Rattle.wire.specs.BytesLaws.{over-nil, over-cons, over-is, over-whole, over-append, length-part, part-of, part-add, part-drop}
+use Rattle.wire.specs.BytesLaws.{over-is, over-whole, over-append, length-part, part-of, part-add, part-drop, over-behind, over-ahead, part-behind, over-seam, set-over}
 use Rattle.wire.specs.Cases.{by-lt, never}
 use Rattle.records.specs.declared.Record.{Record}
 use Rattle.records.specs.Records.{key, rising, look, held, rank, insert, remove, amend, lasting, bytesOf, up, down, inserted, removed, amended, records, encode as recordBytes}
@@ -19,13 +19,12 @@ use Rattle.home.specs.CapacitiesLaws.{cells-is}
 use Rattle.home.specs.Capacities.{capacity, cells}
 use Rattle.home.specs.Zones.{Block}
 use Rattle.home.specs.Layout.{Sits}
-use Rattle.home.specs.Bytes.{blockBytes, cellAt}
+use Rattle.home.specs.Bytes.{blockBytes, cellAt, listAt}
 use Rattle.home.specs.AreaLaws.{length-block}
 use Rattle.home.specs.BytesLaws.{part-join}
 use Rattle.home.specs.EditsLaws.{length-insert, length-amend}
 use Rattle.home.specs.HomeLaws.{block-starts, block-records}
-use Rattle.moves.specs.JoinLaws.{over-behind, over-ahead, part-behind, over-seam}
-use Rattle.lists.specs.Lists.{listAt, holding, grown, shrunk, relisted, insertedHere, removedHere, setHere}
+use Rattle.lists.specs.Lists.{holding, grown, shrunk, relisted, insertedHere, removedHere, setHere}
 
 -- ---- edits of a run of bytes: i records' bytes p, then the rest
 
@@ -58,9 +57,6 @@ removed-in p x q i a b =
     ∙ ap (λ (y : List ℕ). over (over l (8 * i) y) (length l - 8) z) (part-behind p (x ++ q) (8 * i) 8 (length q) a ∙ ap (λ (y : List ℕ). part (x ++ y) 8 (length q)) (sym (append-nil q)) ∙ part-join 8 (length q) x q [] b refl)
     ∙ ap₂ (λ (y : List ℕ) (k : ℕ). over y k z) (t ∙ ap (λ (y : List ℕ). p ++ (q ++ y)) (sym (append-nil d)) ∙ sym (append-assoc p q (d ++ []))) m
     ∙ over-seam (p ++ q) d [] z (length (p ++ q)) refl (k ∙ sym (length-replicate {A = ℕ} 8 0))
-
-set-over : (l : List ℕ) (i m : ℕ) → set l i m ≡ over l i (m ∷ [])
-set-over l i m = sym (over-nil (set l i m) (suc i)) ∙ over-cons l i m []
 
 amended-in : (p x q : List ℕ) (i m : ℕ) → length p ≡ 8 * i → length x ≡ 8 → amended (p ++ (x ++ q)) i m ≡ p ++ (set x 7 m ++ q)
 unfolding amended

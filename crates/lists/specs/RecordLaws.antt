@@ -11,19 +11,19 @@ use lib.Seq.{take-at}
 use Rattle.records.specs.declared.Record.{Record}
 use Rattle.records.specs.Records.{key, held, rank, insert, remove, amend, encode as recordBytes, decode as recordsIn}
 use Rattle.records.specs.Order.{remove-at, rank-length}
-use Rattle.home.specs.Cases.{isSome, some-is}
+use Rattle.home.specs.Cases.{some-is}
 use Rattle.home.specs.Capacities.{cells, capacity, classOf}
 use Rattle.home.specs.CapacitiesLaws.{cells-is, class-holds}
 use Rattle.home.specs.Zones.{Block, takeOut}
 use Rattle.home.specs.Layout.{change}
-use Rattle.home.specs.ChangeLaws.{Listed as Proper}
 use Rattle.home.specs.EditsLaws.{length-insert, length-amend, remove-listed, amend-listed, insert-listed, shorter}
-use Rattle.wire.specs.Bytes.{over}
-use Rattle.home.specs.Bytes.{encode, decode, blockBytes, cellAt}
+use Rattle.wire.specs.Bytes.{over, isSome}
+use Rattle.home.specs.Bytes.{encode, decode, blockBytes, cellAt, listAt}
 use Rattle.home.specs.Sound.{pagesOf, listOf}
+use Rattle.home.specs.Valid.{Proper}
 use Rattle.zones.specs.SoundLaws.{sound-valid}
 use Rattle.zones.specs.BlockLaws.{Lying}
-use Rattle.lists.specs.Lists.{listAt, grown, shrunk, insertedHere, removedHere, setHere}
+use Rattle.lists.specs.Lists.{grown, shrunk, insertedHere, removedHere, setHere}
 use Rattle.lists.specs.ListsLaws.{rank-held, length-remove, insert-aside-is, remove-aside-is, insert-here-is, remove-here-is, set-here-is}
 use Rattle.lists.specs.Listed.{Listed, Placed, Ranked, Moving, changed, without}
 use Rattle.lists.specs.ListedLaws.{listed-has, listed-lying, listed-many, listed-some, listed-most}

@@ -16,7 +16,7 @@ ghost use Rattle.home.specs.Capacities.{classOf};
 ghost use Rattle.home.specs.Bytes.{decode};
 ghost use Rattle.home.specs.Sound.{pagesOf, listOf};
 ghost use Rattle.home.specs.Layout.{change};
-ghost use Rattle.home.specs.Cases.{isSome};
+ghost use Rattle.wire.specs.Bytes.{isSome};
 ghost use Rattle.lists.specs.Listed.{Ranked, Placed, Moving, changed, without};
 
 // The tag's list becomes this one, in a block of another class, for which there is room.

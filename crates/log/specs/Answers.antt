@@ -1,19 +1,20 @@
 -- What each return of format, commit and recover answers and leaves.
 use mathlib.Core.Path.{_≡_, refl, sym, ap, _∙_}
-use mathlib.Core.Bool.{true, false}
+use mathlib.Core.Bool.{Bool, true, false}
 use Prim.Native.Nat.{ℕ, _+_, _-_, _*_, _≤_, _<_}
 use native.Mathlib.Omega.{arith}
 use mathlib.Core.List.{List, [], _∷_, _++_}
 use lib.ListN.{length, take, drop, replicate, length-take, length-append, length-drop, length-replicate}
 use lib.Seq.{take-nil}
 use lib.Dec.{leb}
-use borrow.Author.Tests.{le-leb, lt-leb, eq-eqb, ne-eqb}
+use borrow.Author.Tests.{le-leb, lt-leb, lt-ltb, le-ltb, eq-eqb, ne-eqb}
 use Rattle.wire.specs.Bytes.{pick, bytes16}
-use Rattle.wire.specs.Cases.{by-test, and-false}
+use Rattle.wire.specs.Cases.{and-false}
+use Rattle.wire.specs.Rules.{first}
 use Rattle.wire.specs.All.{All, all-map}
 use Rattle.redo.specs.Store.{Store, run}
 use Rattle.redo.specs.StoreLaws.{apply-none, length-run, run-append}
-use Rattle.redo.specs.Image.{letters, capacity, recordPages, count, pages, homeAt, home, inRange, imageLength, headOk, headPage, emptyImage}
+use Rattle.redo.specs.Image.{letters, capacity, recordPages, count, mark, pages, homeAt, home, inRange, imageLength, headOk, headPage, emptyImage}
 use Rattle.redo.specs.ImageLaws.{Right}
 use Rattle.redo.specs.Entry.{entryAt, rising, changes, Loggable}
 use Rattle.redo.specs.EntryLaws.{entries-long, length-entries, rising-below}
@@ -21,11 +22,8 @@ use Rattle.redo.specs.Stores.{formatStores, clearMark, recoverStores, commitSto
 use Rattle.redo.specs.StoresLaws.{length-recover}
 use Rattle.redo.specs.Stage.{Stage, Makes, stage-more}
 use Rattle.redo.specs.Stages.{commit-needs}
-use Rattle.log.specs.declared.Head.{Head}
-use Rattle.log.specs.declared.Head.the-variants.{Bad, Clear, Committed, Spoiled}
 use Rattle.log.specs.declared.Outcome.the-variants.{Done, Cut, Refused}
-use Rattle.log.specs.Head.{headOf}
-use Rattle.log.specs.Calls.{Plan, refuse, store, answer, after, formatPlan, logOf, logOk, changed, committedPlan, clearPlan, anyBytes}
+use Rattle.log.specs.Calls.{Plan, refuse, store, answer, after, formatRules, formatPlan, logOf, logOk, recoverRules, recoverPlan, changed, commitRules, commitPlan, anyBytes}
 
 -- ---- any call
 
@@ -37,6 +35,9 @@ pub nothing-is : (p : Plan) (n : ℕ) (l : List ℕ) → p ≡ store [] → (Don
 unfolding answer after
 nothing-is p n l e = rw (e, take-nil, le-leb 0 n (omega arith)) (refl, sym (apply-none l))
 
+pub not-store : (ss : List Store) (r : ℕ) → refuse r ≡ store ss → ⊥
+not-store ss r e = let z : _≡_ {A = ℕ} 0 1 = cc in omega arith
+
 -- the whole call's stores as one stage: its answer and the bytes it leaves
 pub stage-answer : {n n' m' : ℕ} {ss : List Store} {l l' : List ℕ} (need : ℕ) → length ss ≡ need → Stage n 0 ss l n' m' l'
     → (pick (leb need n) (Done m') (Cut m') ≡ answer (store ss) n) × (l' ≡ after (store ss) n l)
@@ -45,23 +46,47 @@ stage-answer {n} {ss} need e s =
     let made : _≡_ {A = ℕ} _ (length (take n ss)) = s .made ∙ rw (length-take n ss) (omega arith) in
     (rw (← e, made), s .bytes)
 
--- ---- recover, with the mark set
+-- ---- recover
 
+module _ (l : List ℕ) (ok : headOk l ≡ true) where
+  pub recover-clear : mark l ≡ 0 → recoverPlan l ≡ store []
+  unfolding recoverPlan recoverRules first
+  recover-clear m = rw (ok, m)
+
+  pub recover-committed : mark l ≡ 165 → logOk l ≡ true → recoverPlan l ≡ store (recoverStores (homeAt l) (logOf l))
+  unfolding recoverPlan recoverRules first
+  recover-committed m e = rw (ok, m, e)
+
+  pub recover-mislogged : mark l ≡ 165 → logOk l ≡ false → recoverPlan l ≡ refuse 4
+  unfolding recoverPlan recoverRules first
+  recover-mislogged m e = rw (ok, m, e)
+
+  pub recover-spoiled : (mark l ≡ 0 → ⊥) → (mark l ≡ 165 → ⊥) → recoverPlan l ≡ store clearMark
+  unfolding recoverPlan recoverRules first
+  recover-spoiled f g = rw (ok, ne-eqb (mark l) 0 f, ne-eqb (mark l) 165 g)
+
+-- the one store over a spoiled mark
+pub cleared-is : {n m' : ℕ} {l l' : List ℕ} → Makes n (run 10 (0 ∷ [])) l m' l'
+    → (pick (leb 1 n) (Done m') (Cut m') ≡ answer (store clearMark) n) × (l' ≡ after (store clearMark) n l)
+unfolding clearMark
+cleared-is s = stage-answer 1 (length-run 10 (0 ∷ [])) s
+
+-- the log as the code finds it
 module _ (l : List ℕ) where
-  pub none-logged : count l ≡ 0 → committedPlan l ≡ refuse 4
-  unfolding committedPlan logOk
+  pub none-logged : count l ≡ 0 → logOk l ≡ false
+  unfolding logOk
   none-logged e = rw e
 
-  pub over-logged : capacity l < count l → committedPlan l ≡ refuse 4
-  unfolding committedPlan logOk
+  pub over-logged : capacity l < count l → logOk l ≡ false
+  unfolding logOk
   over-logged g = rw (lt-leb (count l) (capacity l) g, and-false)
 
-  pub mixed-logged : rising 0 (pages l) (logOf l) ≡ false → committedPlan l ≡ refuse 4
-  unfolding committedPlan logOk
+  pub mixed-logged : rising 0 (pages l) (logOf l) ≡ false → logOk l ≡ false
+  unfolding logOk
   mixed-logged e = rw (e, and-false)
 
-  pub well-logged : (count l ≡ 0 → ⊥) → count l ≤ capacity l → rising 0 (pages l) (logOf l) ≡ true → committedPlan l ≡ store (recoverStores (homeAt l) (logOf l))
-  unfolding committedPlan logOk
+  pub well-logged : (count l ≡ 0 → ⊥) → count l ≤ capacity l → rising 0 (pages l) (logOf l) ≡ true → logOk l ≡ true
+  unfolding logOk
   well-logged f g e = rw (le-leb 1 (count l) (omega arith), le-leb (count l) (capacity l) g, e)
 
   -- each page has its place in the image
@@ -76,21 +101,26 @@ module _ (l : List ℕ) where
       let long = length-recover (homeAt l) (entries-long l 0 (count l) (omega arith)) ∙ ap (λ (k : ℕ). 64 * k + 1) (length-entries l 0 (count l)) in
       rw e (stage-answer (64 * count l + 1) long s)
 
--- ---- commit, with the mark clear
+-- ---- commit
+
+pub commit-marked : (accept : List ℕ → Bool) (l w : List ℕ) → headOk l ≡ true → (mark l ≡ 0 → ⊥) → commitPlan accept l w ≡ refuse 3
+unfolding commitPlan commitRules first
+commit-marked accept l w ok f = rw (ok, ne-eqb (mark l) 0 f)
+
+module _ (l w : List ℕ) (ok : headOk l ≡ true) (m : mark l ≡ 0) where
+  pub other-length : (length w ≡ 64 * pages l → ⊥) → commitPlan anyBytes l w ≡ refuse 6
+  unfolding commitPlan commitRules first
+  other-length f = rw (ok, m, ne-eqb (length w) (64 * pages l) f)
+
+  pub many-pages : length w ≡ 64 * pages l → capacity l < length (changed l w) → commitPlan anyBytes l w ≡ refuse 13
+  unfolding commitPlan commitRules first
+  many-pages e g = rw (ok, m, eq-eqb (length w) (64 * pages l) e, lt-ltb (capacity l) (length (changed l w)) g)
+
+  pub few-pages-is : length w ≡ 64 * pages l → length (changed l w) ≤ capacity l → commitPlan anyBytes l w ≡ store (commitStores (homeAt l) (changed l w))
+  unfolding commitPlan commitRules first
+  few-pages-is e g = rw (ok, m, eq-eqb (length w) (64 * pages l) e, le-ltb (capacity l) (length (changed l w)) g)
 
 module _ (l w : List ℕ) where
-  pub other-length : (length w ≡ 64 * pages l → ⊥) → clearPlan anyBytes l w ≡ refuse 6
-  unfolding clearPlan
-  other-length f = rw (ne-eqb (length w) (64 * pages l) f)
-
-  pub many-pages : length w ≡ 64 * pages l → capacity l < length (changed l w) → clearPlan anyBytes l w ≡ refuse 13
-  unfolding clearPlan
-  many-pages e g = rw (eq-eqb (length w) (64 * pages l) e, lt-leb (length (changed l w)) (capacity l) g)
-
-  pub few-pages-is : length w ≡ 64 * pages l → length (changed l w) ≤ capacity l → clearPlan anyBytes l w ≡ store (commitStores (homeAt l) (changed l w))
-  unfolding clearPlan
-  few-pages-is e g = rw (eq-eqb (length w) (64 * pages l) e, le-leb (length (changed l w)) (capacity l) g)
-
   -- the pages as the code finds them, from the sizes that it read
   pub changed-is : (L R : ℕ) → L ≡ capacity l → R ≡ recordPages l → changes (drop (64 + 66 * L) l) w (26 + R) ≡ changed l w
   unfolding home
@@ -100,29 +130,6 @@ module _ (l w : List ℕ) where
 pub commit-answer : (l : List ℕ) (h : ℕ) (w : List ℕ) (q k : ℕ) → Loggable l h w q k → 0 < k → {n n' m' : ℕ} {l' : List ℕ} → Stage n 0 (commitStores h (changes (drop h l) w q)) l n' m' l'
     → (pick (leb (130 * k + 4) n) (Done m') (Cut m') ≡ answer (store (commitStores h (changes (drop h l) w q))) n) × (l' ≡ after (store (commitStores h (changes (drop h l) w q))) n l)
 commit-answer l h w q k fit some s = stage-answer (130 * k + 4) (commit-needs l h w q k fit some) s
-
--- ---- the head
-
--- the one store over a spoiled mark
-pub cleared-is : {n m' : ℕ} {l l' : List ℕ} → Makes n (run 10 (0 ∷ [])) l m' l'
-    → (pick (leb 1 n) (Done m') (Cut m') ≡ answer (store clearMark) n) × (l' ≡ after (store clearMark) n l)
-unfolding clearMark
-cleared-is s = stage-answer 1 (length-run 10 (0 ∷ [])) s
-
--- a mark was read, so the head is right
-module _ (l : List ℕ) where
-  known : (h : Head) → headOf l ≡ h → (h ≡ Bad → ⊥) → headOk l ≡ true
-  unfolding headOf
-  known h e f = by-test (headOk l) (λ t. t) (λ t. absurd (f (sym e ∙ rw t)))
-
-  pub clear-ok : headOf l ≡ Clear → headOk l ≡ true
-  clear-ok e = known Clear e (λ z. let x : _≡_ {A = ℕ} 0 1 = cc in omega arith)
-
-  pub committed-ok : headOf l ≡ Committed → headOk l ≡ true
-  committed-ok e = known Committed e (λ z. let x : _≡_ {A = ℕ} 0 1 = cc in omega arith)
-
-  pub spoiled-ok : headOf l ≡ Spoiled → headOk l ≡ true
-  spoiled-ok e = known Spoiled e (λ z. let x : _≡_ {A = ℕ} 0 1 = cc in omega arith)
 
 -- ---- format
 
@@ -161,13 +168,13 @@ format-stages {n} {n₄ = n₄} {m₄ = m₄} {l} {l₄ = l₄} L R a b c d =
     stage-answer (imageLength L R + 1) (length-format L R) all
 
 pub format-misfit : (l : List ℕ) (L R : ℕ) → inRange L R ≡ true → (length l ≡ imageLength L R → ⊥) → formatPlan l L R ≡ refuse 14
-unfolding formatPlan
+unfolding formatPlan formatRules first
 format-misfit l L R e f = rw (e, ne-eqb (length l) (imageLength L R) f)
 
 pub format-sizes : (l : List ℕ) (L R : ℕ) → inRange L R ≡ false → formatPlan l L R ≡ refuse 14
-unfolding formatPlan
+unfolding formatPlan formatRules first
 format-sizes l L R e = rw e
 
 pub format-fits : (l : List ℕ) (L R : ℕ) → inRange L R ≡ true → length l ≡ imageLength L R → formatPlan l L R ≡ store (formatStores L R)
-unfolding formatPlan
+unfolding formatPlan formatRules first
 format-fits l L R e f = rw (e, eq-eqb (length l) (imageLength L R) f)

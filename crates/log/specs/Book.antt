@@ -1,10 +1,11 @@
 -- Lists of commits and recoveries, and the book that foretells what each answers and leaves.
 use Prim.Native.Nat.{ℕ, _+_, _-_, _*_, _/_, min}
-use mathlib.Core.Bool.{Bool}
+use mathlib.Core.Bool.{Bool, not}
 use mathlib.Core.List.{List, [], _∷_}
 use lib.ListN.{length, drop}
-use lib.Dec.{leb, eqb}
+use lib.Dec.{leb, ltb, eqb}
 use Rattle.wire.specs.Bytes.{pick}
+use Rattle.wire.specs.Rules.{Rule, rule, first}
 use Rattle.redo.specs.Store.{Store, halfway}
 use Rattle.redo.specs.Entry.{changes}
 use Rattle.log.specs.declared.Outcome.{Outcome}
@@ -78,19 +79,17 @@ pub data Verdict : Type 0 where
   refused : ℕ → Verdict
   writes : ℕ → Verdict
 
--- 3 unless the mark is clear; else 6 if w isn't as long as H; else 7 if w isn't accepted; else 13 if k is above L
-unfoldable pub judgeBy : Bool → (List ℕ → Bool) → ℕ → List ℕ → List ℕ → Verdict
-judgeBy clear accept L H w =
-    pick clear
-    (pick (eqb (length w) (length H))
-    (pick (accept w)
-    (pick (leb (differing H w) L) (writes (differing H w)) (refused 13))
-    (refused 7))
-    (refused 6))
-    (refused 3)
+-- 6 if w isn't as long as H, 7 if w isn't accepted, 13 if k is above L
+unfoldable pub keptRules : (List ℕ → Bool) → ℕ → List ℕ → List ℕ → List Rule
+keptRules accept L H w = rule 6 (not (eqb (length w) (length H))) ∷ rule 7 (not (accept w)) ∷ rule 13 (ltb L (differing H w)) ∷ []
+
+-- before them 3, for every mark but 0
+unfoldable pub bookRules : (List ℕ → Bool) → ℕ → Book → List ℕ → List Rule
+unfolding keptRules
+bookRules accept L b w = rule 3 (not (eqb (b .mark) 0)) ∷ keptRules accept L (b .kept) w
 
 unfoldable pub judge : (List ℕ → Bool) → ℕ → Book → List ℕ → Verdict
-judge accept L b w = judgeBy (eqb (b .mark) 0) accept L (b .kept) w
+judge accept L b w = first refused (bookRules accept L b w) (writes (differing (b .kept) w))
 
 -- 130k + 4 stores, or none if k is 0
 unfoldable pub commitNeed : ℕ → ℕ

@@ -1,13 +1,17 @@
 -- Laws of the book alone: its numbers, and what a recovery and a commit make of it, by where they are cut.
 use mathlib.Core.Path.{_≡_, refl}
-use mathlib.Core.Bool.{Bool}
+use mathlib.Core.Bool.{Bool, true, not}
+use mathlib.Core.Option.{none}
 use Prim.Native.Nat.{ℕ, _+_, _-_, _*_, _≤_, _<_}
 use native.Mathlib.Omega.{arith}
 use mathlib.Core.List.{List}
-use lib.Dec.{leb, eqb}
-use borrow.Author.Tests.{le-leb, lt-leb, eq-eqb, ne-eqb, eqb-true}
+use lib.ListN.{length}
+use lib.Dec.{leb, ltb, eqb}
+use borrow.Author.Tests.{le-leb, lt-leb, eq-eqb, ne-eqb, eqb-true, not-false, ltb-false}
 use Rattle.wire.specs.Cases.{by-test, by-lt, by-eq}
-use Rattle.log.specs.Book.{Book, writes, judgeBy, judge, commitNeed, needBy, recoverNeed, logs, toldMark, recovering, committing}
+use Rattle.wire.specs.Rules.{refusal}
+use Rattle.wire.specs.RulesLaws.{passes, unrefused}
+use Rattle.log.specs.Book.{Book, refused, writes, differing, keptRules, bookRules, judge, commitNeed, needBy, recoverNeed, logs, toldMark, recovering, committing}
 
 -- ---- the book's numbers
 
@@ -74,9 +78,25 @@ by-committing P b w k n v p q r = by-lt n (66 * k + 2)
     (λ e. rw (committing-mark b n v w k e) (q e))
     (λ e. rw (committing-late b n v w k (omega arith)) (r (omega arith))))
 
--- a commit is not refused only with mark 0
-pub writes-clear : (accept : List ℕ → Bool) (L : ℕ) (b : Book) (w : List ℕ) (k : ℕ) → judge accept L b w ≡ writes k → b .mark ≡ 0
-unfolding judge judgeBy
-writes-clear accept L b w k e = by-test (eqb (b .mark) 0)
-    (λ t. eqb-true (b .mark) 0 t)
-    (λ f. let z : _≡_ {A = ℕ} 0 1 = cc in absurd (omega arith))
+-- ---- a commit that is not refused
+
+pub not-writes : (k r : ℕ) → refused r ≡ writes k → ⊥
+not-writes k r e = let z : _≡_ {A = ℕ} 0 1 = cc in omega arith
+
+module _ (accept : List ℕ → Bool) (L : ℕ) where
+  pub kept-passed : (H w : List ℕ) → refusal (keptRules accept L H w) ≡ none → (length w ≡ length H) × (accept w ≡ true) × (differing H w ≤ L)
+  unfolding keptRules
+  kept-passed H w e =
+      let a = passes 6 (not (eqb (length w) (length H))) _ e in
+      let b = passes 7 (not (accept w)) _ (a .1) in
+      let c = passes 13 (ltb L (differing H w)) _ (b .1) in
+      (eqb-true _ _ (not-false _ (a .0)), not-false _ (b .0), ltb-false _ _ (c .0))
+
+  pub book-passed : (b : Book) (w : List ℕ) → refusal (bookRules accept L b w) ≡ none → (b .mark ≡ 0) × (refusal (keptRules accept L (b .kept) w) ≡ none)
+  unfolding bookRules
+  book-passed b w e = let a = passes 3 (not (eqb (b .mark) 0)) _ e in (eqb-true _ _ (not-false _ (a .0)), a .1)
+
+  -- only with mark 0
+  pub writes-clear : (b : Book) (w : List ℕ) (k : ℕ) → judge accept L b w ≡ writes k → b .mark ≡ 0
+  unfolding judge
+  writes-clear b w k e = book-passed b w (unrefused refused (bookRules accept L b w) (writes (differing (b .kept) w)) (writes k) (not-writes k) e) .0

@@ -1,19 +1,17 @@
 -- The calls that store: each is refused, or has one list of stores that an allowance cuts.
 use Prim.Native.Nat.{ℕ, _*_}
-use mathlib.Core.Bool.{Bool, true, false, _&&_}
-use mathlib.Core.List.{List, []}
+use mathlib.Core.Bool.{Bool, true, not, _&&_}
+use mathlib.Core.List.{List, [], _∷_, _++_}
 use lib.ListN.{length, take}
-use lib.Dec.{leb, eqb}
+use lib.Dec.{leb, ltb, eqb}
 use Rattle.wire.specs.Bytes.{pick}
+use Rattle.wire.specs.Rules.{Rule, rule, first}
 use Rattle.redo.specs.Store.{Store, apply}
-use Rattle.redo.specs.Image.{capacity, count, pages, homeAt, home, inRange, imageLength}
+use Rattle.redo.specs.Image.{capacity, count, mark, pages, homeAt, home, inRange, imageLength, headOk}
 use Rattle.redo.specs.Entry.{Entry, entries, rising, changes}
 use Rattle.redo.specs.Stores.{formatStores, clearMark, recoverStores, commitStores}
-use Rattle.log.specs.declared.Head.{Head}
-use Rattle.log.specs.declared.Head.the-variants.{Bad, Clear, Committed, Spoiled}
 use Rattle.log.specs.declared.Outcome.{Outcome}
 use Rattle.log.specs.declared.Outcome.the-variants.{Done, Cut, Refused}
-use Rattle.log.specs.Head.{headOf}
 
 -- what a call on given bytes comes to: its refusal, or all the stores that it needs
 pub data Plan : Type 0 where
@@ -31,22 +29,25 @@ unfoldable pub after : Plan → ℕ → List ℕ → List ℕ
 after (refuse r) n l = l
 after (store ss) n l = apply (take n ss) l
 
--- refused with r unless the test holds
-abbrev pub unless : Bool → ℕ → Plan → Plan
-unless true r p = p
-unless false r p = refuse r
+-- ---- an image lent
 
--- by the head: refused with 1, or what is to be done with the mark clear, with it set, and with any other value there
-abbrev pub atHead : Head → Plan → Plan → Plan → Plan
-atHead Bad clear committed spoiled = refuse 1
-atHead Clear clear committed spoiled = clear
-atHead Committed clear committed spoiled = committed
-atHead Spoiled clear committed spoiled = spoiled
+-- "1: image calls", "3 is given for every mark but 0"
+unfoldable pub headRules : List ℕ → List Rule
+headRules l = rule 1 (not (headOk l)) ∷ rule 3 (not (eqb (mark l) 0)) ∷ []
+
+-- in a call that looks at home; 5 goes by a test of home bytes that the caller has
+unfoldable pub imageRules : (List ℕ → Bool) → List ℕ → List Rule
+unfolding headRules
+imageRules accept l = headRules l ++ rule 5 (not (accept (home l))) ∷ []
 
 -- ---- format
 
+-- "14: format, L or R out of range or length not matching"
+unfoldable pub formatRules : List ℕ → ℕ → ℕ → List Rule
+formatRules l L R = rule 14 (not (inRange L R && eqb (length l) (imageLength L R))) ∷ []
+
 unfoldable pub formatPlan : List ℕ → ℕ → ℕ → Plan
-formatPlan l L R = unless (inRange L R && eqb (length l) (imageLength L R)) 14 (store (formatStores L R))
+formatPlan l L R = first refuse (formatRules l L R) (store (formatStores L R))
 
 -- ---- recover
 
@@ -58,13 +59,13 @@ logOf l = entries l 0 (count l)
 unfoldable pub logOk : List ℕ → Bool
 logOk l = leb 1 (count l) && leb (count l) (capacity l) && rising 0 (pages l) (logOf l)
 
--- with the mark set
-unfoldable pub committedPlan : List ℕ → Plan
-committedPlan l = unless (logOk l) 4 (store (recoverStores (homeAt l) (logOf l)))
+-- 4 with mark 165 only
+unfoldable pub recoverRules : List ℕ → List Rule
+recoverRules l = rule 1 (not (headOk l)) ∷ rule 4 (eqb (mark l) 165 && not (logOk l)) ∷ []
 
--- with a mark that is neither 0 nor 165, the one store of 0 over it is the whole recovery
+-- no store with mark 0; with a mark that is neither 0 nor 165, the one store of 0 over it is the whole recovery
 unfoldable pub recoverPlan : List ℕ → Plan
-recoverPlan l = atHead (headOf l) (store []) (committedPlan l) (store clearMark)
+recoverPlan l = first refuse (recoverRules l) (store (pick (eqb (mark l) 0) [] (pick (eqb (mark l) 165) (recoverStores (homeAt l) (logOf l)) clearMark)))
 
 -- ---- commit
 
@@ -72,18 +73,13 @@ recoverPlan l = atHead (headOf l) (store []) (committedPlan l) (store clearMark)
 abbrev pub changed : List ℕ → List ℕ → List Entry
 changed l w = changes (home l) w (pages l)
 
--- with the mark clear; 5 and 7 go by a test of home bytes and workspace that the caller has
-unfoldable pub clearPlan : (List ℕ → Bool) → List ℕ → List ℕ → Plan
-clearPlan accept l w =
-    unless (accept (home l)) 5
-    (unless (eqb (length w) (64 * pages l)) 6
-    (unless (accept w) 7
-    (unless (leb (length (changed l w)) (capacity l)) 13
-    (store (commitStores (homeAt l) (changed l w))))))
+-- 6 by the image's length, 7 by the same test as 5, "13: commit, k above L"
+unfoldable pub commitRules : (List ℕ → Bool) → List ℕ → List ℕ → List Rule
+unfolding imageRules
+commitRules accept l w = imageRules accept l ++ rule 6 (not (eqb (length w) (64 * pages l))) ∷ rule 7 (not (accept w)) ∷ rule 13 (ltb (capacity l) (length (changed l w))) ∷ []
 
--- 3 with every mark but 0
 unfoldable pub commitPlan : (List ℕ → Bool) → List ℕ → List ℕ → Plan
-commitPlan accept l w = atHead (headOf l) (clearPlan accept l w) (refuse 3) (refuse 3)
+commitPlan accept l w = first refuse (commitRules accept l w) (store (commitStores (homeAt l) (changed l w)))
 
 -- the test of a log that knows pages only
 abbrev pub anyBytes : List ℕ → Bool

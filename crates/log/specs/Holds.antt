@@ -3,42 +3,15 @@ use mathlib.Core.Path.{_≡_, refl, _∙_}
 use mathlib.Core.Bool.{Bool, true}
 use Prim.Native.Nat.{ℕ, _*_}
 use native.Mathlib.Omega.{arith}
-use mathlib.Core.List.{List, []}
+use mathlib.Core.List.{List}
 use lib.ListN.{length, set}
 use lib.Dec.{eqb}
 use borrow.Author.Tests.{eq-eqb, ne-eqb}
 use Rattle.wire.specs.Cases.{by-test, by-eq}
-use Rattle.redo.specs.Image.{mark, pages, homeAt, home, headOk}
+use Rattle.redo.specs.Image.{mark, pages, home, headOk}
 use Rattle.redo.specs.ImageLaws.{SameHead, same-trans, head-same, head-right}
-use Rattle.redo.specs.Stores.{clearMark, recoverStores}
-use Rattle.log.specs.HeadLaws.{head-clear, head-committed, head-spoiled}
-use Rattle.log.specs.Calls.{refuse, store, logOf, logOk, committedPlan, recoverPlan, clearPlan, commitPlan}
 use Rattle.log.specs.Book.{Book, toldMark}
 use Rattle.log.specs.Logged.{Logged, remark-head, remark-mark, remark-home, remark-logged}
-
--- ---- plans by the state of the image
-
-module _ (l : List ℕ) (ok : headOk l ≡ true) where
-  pub recover-clear : mark l ≡ 0 → recoverPlan l ≡ store []
-  unfolding recoverPlan
-  recover-clear m = rw (head-clear l ok m)
-
-  pub recover-committed : mark l ≡ 165 → logOk l ≡ true → recoverPlan l ≡ store (recoverStores (homeAt l) (logOf l))
-  unfolding recoverPlan committedPlan
-  recover-committed m e = rw (head-committed l ok m, e)
-
-  pub recover-spoiled : (mark l ≡ 0 → ⊥) → (mark l ≡ 165 → ⊥) → recoverPlan l ≡ store clearMark
-  unfolding recoverPlan
-  recover-spoiled f g = rw (head-spoiled l ok f g)
-
-module _ (accept : List ℕ → Bool) (l w : List ℕ) (ok : headOk l ≡ true) where
-  pub commit-clear : mark l ≡ 0 → commitPlan accept l w ≡ clearPlan accept l w
-  unfolding commitPlan
-  commit-clear m = rw (head-clear l ok m)
-
-  pub commit-marked : (mark l ≡ 0 → ⊥) → commitPlan accept l w ≡ refuse 3
-  unfolding commitPlan
-  commit-marked f = by-eq (mark l) 165 (λ m. rw (head-committed l ok m)) (λ g. rw (head-spoiled l ok f g))
 
 -- ---- what holds between calls
 

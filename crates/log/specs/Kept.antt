@@ -1,29 +1,31 @@
 -- The claim in the user's words: which index is found after a switch-off, and that a completed commit is kept.
 use mathlib.Core.Path.{_≡_, refl, sym, ap, _∙_}
-use mathlib.Core.Bool.{Bool, true}
+use mathlib.Core.Bool.{Bool, true, not}
 use mathlib.Core.Logic.{_⊎_, inl, inr, ⊎-elim}
 use Prim.Native.Nat.{ℕ, _+_, _-_, _*_, _/_, _≤_, _<_}
 use native.Mathlib.Omega.{arith}
 use mathlib.Core.List.{List, [], _∷_, _++_}
 use lib.ListN.{length}
 use lib.Dec.{leb, eqb}
-use borrow.Author.Tests.{eqb-true, leb-true, eq-eqb, ne-eqb}
+use borrow.Author.Tests.{eqb-true, leb-true, ne-eqb, not-false}
 use Rattle.wire.specs.Cases.{by-test, by-eq}
+use Rattle.wire.specs.RulesLaws.{first-refused, first-passed, passes, by-refusal, unrefused}
 use Rattle.wire.specs.All.{All, none, more}
 use Rattle.redo.specs.Store.{Store, apply}
 use Rattle.redo.specs.StoreLaws.{apply-none}
-use Rattle.redo.specs.Image.{capacity, mark, pages, home, headOk}
+use Rattle.redo.specs.Image.{capacity, mark, pages, homeAt, home, headOk}
 use Rattle.redo.specs.ImageLaws.{head-right, length-home}
 use Rattle.redo.specs.Entry.{Entry, changes, replay}
 use Rattle.redo.specs.EntryLaws.{home-becomes}
-use Rattle.log.specs.declared.Outcome.the-variants.{Done, Cut, Refused}
-use Rattle.log.specs.Calls.{refuse, store, answer, after, changed, recoverPlan, clearPlan, commitPlan}
-use Rattle.log.specs.Book.{Call, commit, recover, allowance, value, planOf, Seen, seen, told, foretold, final, Book, start, differing, writes, judgeBy, judge, commitNeed, needBy, recoverNeed, report, answerTo, logs, toldMark, recovering, committing, bookAt, next, bookAfter}
-use Rattle.log.specs.BookLaws.{need-clear, some-commit, recovering-done, committing-early, committing-mark, committing-late, by-recovering}
-use Rattle.log.specs.Holds.{commit-marked, Holds}
+use Rattle.redo.specs.Stores.{commitStores}
+use Rattle.log.specs.declared.Outcome.the-variants.{Done, Refused}
+use Rattle.log.specs.Calls.{refuse, store, answer, after, changed, recoverPlan, commitRules, commitPlan}
+use Rattle.log.specs.Answers.{not-store}
+use Rattle.log.specs.Book.{Call, commit, recover, allowance, value, planOf, Seen, seen, told, foretold, final, Book, start, differing, Verdict, refused, writes, bookRules, judge, commitNeed, needBy, recoverNeed, answerTo, logs, toldMark, recovering, committing, bookAt, next, bookAfter}
+use Rattle.log.specs.BookLaws.{need-clear, some-commit, recovering-done, committing-early, committing-mark, committing-late, by-recovering, book-passed, kept-passed}
+use Rattle.log.specs.Holds.{Holds}
 use Rattle.log.specs.Steps.{Step, step, Writing, writing, writes-changed}
-use Rattle.log.specs.Head.{headOf}
-use Rattle.log.specs.Claim.{Starts, Claim, begins, claim, holds, stands-of, done-uncaught}
+use Rattle.log.specs.Claim.{Starts, Claim, begins, claim, holds, stands-of, done-enough, done-uncaught}
 
 -- the book after a list of calls that starts on l
 abbrev pub bookOf : (List ℕ → Bool) → List ℕ → List Call → Book
@@ -119,23 +121,19 @@ module _ (accept : List ℕ → Bool) (L : ℕ) where
       told-new v = by-test (eqb v 165) (λ e. rw e) (λ e. rw e)
 
 -- only such an image does not refuse a commit
-unrefused : (accept : List ℕ → Bool) (l w : List ℕ) {ss : List Store} → commitPlan accept l w ≡ store ss → Starts accept l
-unfolding clearPlan commitPlan headOf
-unrefused accept l w {ss} e = by-test (headOk l)
-    (λ ok. by-eq (mark l) 0
-    (λ m. by-test (accept (home l))
-    (λ fine. record { head = ok; unmarked = m; fine = fine })
-    (λ fine. no 5 (rw (ok, eq-eqb (mark l) 0 m, fine) at e)))
-    (λ m. no 3 (sym (commit-marked accept l w ok m) ∙ e)))
-    (λ ok. no 1 (rw ok at e))
-  where
-    no : (r : ℕ) → refuse r ≡ store ss → Starts accept l
-    no r e = let z : _≡_ {A = ℕ} 0 1 = cc in absurd (omega arith)
+starts : (accept : List ℕ → Bool) (l w : List ℕ) {ss : List Store} → commitPlan accept l w ≡ store ss → Starts accept l
+unfolding commitPlan commitRules
+starts accept l w {ss} is =
+    let e = unrefused refuse (commitRules accept l w) (store (commitStores (homeAt l) (changed l w))) (store ss) (not-store ss) is in
+    let a = passes 1 (not (headOk l)) _ e in
+    let b = passes 3 (not (eqb (mark l) 0)) _ (a .1) in
+    let c = passes 5 (not (accept (home l))) _ (b .1) in
+    record { head = not-false _ (a .0); unmarked = eqb-true _ _ (not-false _ (b .0)); fine = not-false _ (c .0) }
 
 -- A commit of w that is not refused, on whatever image, cut and caught anywhere; then recoveries, any number of them, cut and caught anywhere.
 module _ (accept : List ℕ → Bool) (l w : List ℕ) {ss : List Store} (plan : commitPlan accept l w ≡ store ss) (n v : ℕ) {rs : List Call} (a : All IsRecover rs) where
   begun : Starts accept l
-  begun = unrefused accept l w plan
+  begun = starts accept l w plan
 
   finds : Finds n v (length (changed l w)) (home l) w (bookOf accept l (commit w n v ∷ rs) .kept)
   unfolding bookAfter next bookAt start
@@ -171,24 +169,21 @@ record Took (accept : List ℕ → Bool) (L : ℕ) (b : Book) (w : List ℕ) (n 
   enough : leb (commitNeed (differing (b .kept) w)) n ≡ true
 
 took : (accept : List ℕ → Bool) (L : ℕ) (b : Book) (w : List ℕ) (n m : ℕ) → answerTo (judge accept L b w) n ≡ Done m → Took accept L b w n
-unfolding judge judgeBy answerTo report
-took accept L b w n m e = by-test (eqb (b .mark) 0)
-    (λ a. by-test (eqb (length w) (length (b .kept)))
-    (λ c. by-test (accept w)
-    (λ f. by-test (leb (differing (b .kept) w) L)
-    (λ g. by-test (leb (commitNeed (differing (b .kept) w)) n)
-    (λ h. record { clear = eqb-true _ _ a; long = eqb-true _ _ c; verdict = rw (a, c, f, g); enough = h })
-    (λ h. other (rw (a, c, f, g, h) at e)))
-    (λ g. refusal (rw (a, c, f, g) at e)))
-    (λ f. refusal (rw (a, c, f) at e)))
-    (λ c. refusal (rw (a, c) at e)))
-    (λ a. refusal (rw a at e))
-  where
-    refusal : {r m : ℕ} → Refused r ≡ Done m → Took accept L b w n
-    refusal e = let z : _≡_ {A = ℕ} 0 1 = cc in absurd (omega arith)
-
-    other : {r m : ℕ} → Cut r ≡ Done m → Took accept L b w n
-    other e = let z : _≡_ {A = ℕ} 0 1 = cc in absurd (omega arith)
+unfolding judge answerTo
+took accept L b w n m done =
+    let rs = bookRules accept L b w in
+    let k : ℕ = differing (b .kept) w in
+    by-refusal rs
+    (λ r e. let f : Refused r ≡ Done m = sym (ap (λ (d : Verdict). answerTo d n) (first-refused refused rs r (writes k) e)) ∙ done in let z : _≡_ {A = ℕ} 0 1 = cc in absurd (omega arith))
+    (λ e.
+    let p = book-passed accept L b w e in
+    let verdict = first-passed refused rs (writes k) e in
+    record {
+      clear = p .0;
+      long = kept-passed accept L (b .kept) w (p .1) .0;
+      verdict = verdict;
+      enough = done-enough (commitNeed k) n m (sym (ap (λ (d : Verdict). answerTo d n) verdict) ∙ done);
+    })
 
 -- a recovery of its log that is done leaves it kept
 ends-kept : (b : Book) (w : List ℕ) (k j v : ℕ) → 64 * k + 1 ≤ j

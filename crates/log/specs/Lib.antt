@@ -14,3 +14,4 @@ pub mod Kept
 pub mod Last
 pub mod Uncaught
 pub mod UncaughtLaws
+pub mod RulesExamples

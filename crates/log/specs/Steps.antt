@@ -4,11 +4,12 @@ use mathlib.Core.Bool.{Bool, true}
 use Prim.Native.Nat.{ℕ, _+_, _-_, _*_, _/_, _≤_, _<_}
 use native.Mathlib.Omega.{arith}
 use mathlib.Core.List.{List, []}
+use mathlib.Core.Option.{none}
 use lib.ListN.{length}
-use lib.Dec.{leb, eqb}
-use borrow.Author.Tests.{leb-true, eq-eqb, ne-eqb, eqb-true}
-use Rattle.wire.specs.Bytes.{pick}
-use Rattle.wire.specs.Cases.{by-test, by-lt, by-eq}
+use borrow.Author.Tests.{eq-eqb, ne-eqb}
+use Rattle.wire.specs.Cases.{by-lt, by-eq}
+use Rattle.wire.specs.Rules.{Rule, first, refusal}
+use Rattle.wire.specs.RulesLaws.{first-refused, first-passed, by-refusal, unrefused}
 use Rattle.redo.specs.Store.{Store, apply, run, halfway}
 use Rattle.redo.specs.StoreLaws.{apply-none, apply-append}
 use Rattle.redo.specs.Image.{capacity, mark, pages, homeAt, home, headOk}
@@ -17,12 +18,13 @@ use Rattle.redo.specs.Entry.{Entry, changes}
 use Rattle.redo.specs.Stores.{clearMark, recoverStores, logStores, commitStores}
 use Rattle.redo.specs.StoresLaws.{length-log, length-commit, commit-none, commit-is}
 use Rattle.redo.specs.Torn.{torn, torn-all, torn-first, torn-second}
-use Rattle.log.specs.Calls.{Plan, unless, refuse, store, answer, after, changed, logOf, recoverPlan, clearPlan, commitPlan}
+use Rattle.log.specs.Calls.{Plan, refuse, store, answer, after, changed, logOf, recoverPlan, commitRules, commitPlan}
+use Rattle.log.specs.Answers.{recover-clear, recover-committed, recover-spoiled, commit-marked, not-store}
 use Rattle.log.specs.CallLaws.{log-last, log-mark-same, recover-marked, recover-last, recover-zero}
-use Rattle.log.specs.Book.{Call, commit, recover, allowance, value, planOf, rest, caught, seen, Book, logs, toldMark, recovering, committing, differing, refused, writes, judgeBy, judge, recoverNeed, report, answerTo, bookAt, foretold, next, leftBy, told}
-use Rattle.log.specs.BookLaws.{need-clear, need-marked, no-commit, some-commit, recovering-done, recovering-last, recovering-cut, by-committing}
+use Rattle.log.specs.Book.{Call, commit, recover, allowance, value, planOf, rest, caught, seen, Book, logs, toldMark, recovering, committing, differing, refused, writes, keptRules, bookRules, judge, recoverNeed, report, answerTo, bookAt, foretold, next, leftBy, told}
+use Rattle.log.specs.BookLaws.{need-clear, need-marked, no-commit, some-commit, recovering-done, recovering-last, recovering-cut, by-committing, not-writes, kept-passed}
 use Rattle.log.specs.Logged.{answer-report, caught-is, caught-report, Logged, long-log, log-long, recover-length, recover-head, recover-logged, recover-home, long-changes, commit-torn, commit-stands, commit-unmarked, commit-head, commit-home, commit-log, commit-logged}
-use Rattle.log.specs.Holds.{recover-clear, recover-committed, recover-spoiled, commit-clear, commit-marked, State, settled, owing, spoiled, Holds, Ready, moved, told-fits, tell}
+use Rattle.log.specs.Holds.{State, settled, owing, spoiled, Holds, Ready, moved, told-fits, tell}
 
 -- a call's own answer and image are those of the book, and what holds goes on
 pub record Step (accept : List ℕ → Bool) (l₀ l : List ℕ) (b : Book) (c : Call) : Type 0 where
@@ -163,26 +165,26 @@ module _ (accept : List ℕ → Bool) (l₀ : List ℕ) (ok₀ : headOk l₀ ≡
   commit-refused w n v r plan verdict = record { same = rw (plan, verdict); goes-on = rw (plan, verdict) t }
 
   marked-judged : (w : List ℕ) → (b .mark ≡ 0 → ⊥) → judge accept (capacity l₀) b w ≡ refused 3
-  unfolding judge judgeBy
+  unfolding judge bookRules first
   marked-judged w f = rw (ne-eqb (b .mark) 0 f)
 
   commit-unsettled : (w : List ℕ) (n v : ℕ) → (b .mark ≡ 0 → ⊥) → Step accept l₀ l b (commit w n v)
   commit-unsettled w n v f = commit-refused w n v 3 (commit-marked accept l w okay (λ z. f (sym (t .marks) ∙ z))) (marked-judged w f)
 
   module _ (m : b .mark ≡ 0) (e : b .owed ≡ 0) (s : home l ≡ b .kept) (w : List ℕ) (n v : ℕ) where
-    stored : List Store
+    abbrev stored : List Store
     stored = commitStores (homeAt l) (changed l w)
 
     -- a commit that nothing refuses, of no page
     commit-nothing : commitPlan accept l w ≡ store stored → judge accept (capacity l₀) b w ≡ writes (length (changed l w)) → length (changed l w) ≡ 0
         → Step accept l₀ l b (commit w n v)
-    unfolding seen told planOf allowance value foretold next answerTo bookAt stored torn
-    commit-nothing plan verdict none =
-        let empty : commitPlan accept l w ≡ store [] = plan ∙ ap store (commit-none (homeAt l) (changed l w) none) in
+    unfolding seen told planOf allowance value foretold next answerTo bookAt torn
+    commit-nothing plan verdict z =
+        let empty : commitPlan accept l w ≡ store [] = plan ∙ ap store (commit-none (homeAt l) (changed l w) z) in
         let both = told-store (commitPlan accept l w) [] 0 n v l empty refl in
         record {
-          same = rw (verdict, none, no-commit) (λ i. record { answered = both .0 i; image = both .1 i });
-          goes-on = rw (verdict, none) (moved (ap (λ (p : Plan). caught p n v l) empty ∙ caught-is [] n v l ∙ apply-none l) refl t);
+          same = rw (verdict, z, no-commit) (λ i. record { answered = both .0 i; image = both .1 i });
+          goes-on = rw (verdict, z) (moved (ap (λ (p : Plan). caught p n v l) empty ∙ caught-is [] n v l ∙ apply-none l) refl t);
         }
 
     -- of some pages
@@ -224,7 +226,7 @@ module _ (accept : List ℕ → Bool) (l₀ : List ℕ) (ok₀ : headOk l₀ ≡
 
       -- torn behind the mark's store, or not at all: a recovery of the log goes on from there
       commit-behind : 66 * k + 3 ≤ n → Holds accept l₀ (apply (torn n v stored) l) (recovering (toldMark (logs b w k) 165) (n - (66 * k + 3)) v)
-      unfolding k stored logging logs toldMark
+      unfolding k logging logs toldMark
       commit-behind g =
           let es : List Entry = changed l w in
           let x : List ℕ = apply logging l in
@@ -246,7 +248,7 @@ module _ (accept : List ℕ → Bool) (l₀ : List ℕ) (ok₀ : headOk l₀ ≡
           moved is refl (recover-goes accept l₀ ok₀ x c h j v)
 
       commit-goes : commitPlan accept l w ≡ store stored → Holds accept l₀ (caught (commitPlan accept l w) n v l) (committing b w k n v)
-      unfolding stored logging k
+      unfolding logging k
       commit-goes plan =
           let is : caught (commitPlan accept l w) n v l ≡ apply (torn n v stored) l = ap (λ (p : Plan). caught p n v l) plan ∙ caught-is stored n v l in
           by-committing (Holds accept l₀ (caught (commitPlan accept l w) n v l)) b w k n v
@@ -259,7 +261,7 @@ module _ (accept : List ℕ → Bool) (l₀ : List ℕ) (ok₀ : headOk l₀ ≡
 
       commit-some : commitPlan accept l w ≡ store stored → judge accept (capacity l₀) b w ≡ writes (length (changed l w))
           → Step accept l₀ l b (commit w n v)
-      unfolding seen told planOf allowance value foretold next answerTo bookAt stored k
+      unfolding seen told planOf allowance value foretold next answerTo bookAt k
       commit-some plan verdict =
           let need : length stored ≡ 130 * k + 4 = length-commit (homeAt l) (changed l w) some (long-changes l w okay same fit) in
           let both = told-store (commitPlan accept l w) stored (130 * k + 4) n v l plan need in
@@ -278,64 +280,50 @@ module _ (accept : List ℕ → Bool) (l₀ : List ℕ) (ok₀ : headOk l₀ ≡
     kept-long : 64 * pages l ≡ length (b .kept)
     kept-long = omega (arith, t .fits .long, pages-same (t .head))
 
-    plan-is : commitPlan accept l w
-        ≡ unless (eqb (length w) (length (b .kept))) 6 (unless (accept w) 7 (unless (leb (length (changed l w)) (capacity l₀)) 13 (store stored)))
-    unfolding clearPlan stored
-    plan-is = commit-clear accept l w okay (t .marks ∙ m) ∙ rw (ap accept s ∙ t .fits .fine, kept-long, capacity-same (t .head))
+    -- those of the book that are left with mark 0
+    abbrev rules : List Rule
+    rules = keptRules accept (capacity l₀) (b .kept) w
 
-    verdict-is : judge accept (capacity l₀) b w
-        ≡ pick (eqb (length w) (length (b .kept))) (pick (accept w) (pick (leb (length (changed l w)) (capacity l₀)) (writes (length (changed l w))) (refused 13)) (refused 7)) (refused 6)
-    unfolding judge judgeBy
+    plan-is : commitPlan accept l w ≡ first refuse rules (store stored)
+    unfolding commitPlan commitRules keptRules first
+    plan-is = rw (okay, eq-eqb (mark l) 0 (t .marks ∙ m), ap accept s ∙ t .fits .fine, differ, kept-long, capacity-same (t .head))
+
+    verdict-is : judge accept (capacity l₀) b w ≡ first refused rules (writes (length (changed l w)))
+    unfolding judge bookRules first
     verdict-is = rw (eq-eqb (b .mark) 0 m, differ)
 
-    -- what a commit with k pages to write is
-    pub writing : (j : ℕ) → judge accept (capacity l₀) b w ≡ writes j → Writing accept l w j
-    unfolding stored
-    writing j is = by-test (eqb (length w) (length (b .kept)))
-        (λ long. by-test (accept w)
-        (λ fine. by-test (leb (length (changed l w)) (capacity l₀))
-        (λ fit.
-        let verdict : writes (length (changed l w)) ≡ writes j = sym (verdict-is ∙ rw (long, fine, fit)) ∙ is in
+    -- what a commit with nothing to refuse it is
+    passed : refusal rules ≡ none → Writing accept l w (length (changed l w))
+    passed e =
+        let p = kept-passed accept (capacity l₀) (b .kept) w e in
         record {
-          plan = plan-is ∙ rw (long, fine, fit);
-          count = cc;
-          same = eqb-true _ _ long ∙ sym kept-long;
-          fit = omega (arith, leb-true (length (changed l w)) (capacity l₀) fit, capacity-same (t .head));
-        })
-        (λ fit. no 13 (sym (verdict-is ∙ rw (long, fine, fit)) ∙ is)))
-        (λ fine. no 7 (sym (verdict-is ∙ rw (long, fine)) ∙ is)))
-        (λ long. no 6 (sym (verdict-is ∙ rw long) ∙ is))
-      where
-        no : (r : ℕ) → refused r ≡ writes j → Writing accept l w j
-        no r e = let z : _≡_ {A = ℕ} 0 1 = cc in absurd (omega arith)
+          plan = plan-is ∙ first-passed refuse rules (store stored) e;
+          same = p .0 ∙ sym kept-long;
+          count = refl;
+          fit = omega (arith, p .2, differ, capacity-same (t .head));
+        }
+
+    -- with k pages to write
+    pub writing : (j : ℕ) → judge accept (capacity l₀) b w ≡ writes j → Writing accept l w j
+    writing j is =
+        let e = unrefused refused rules (writes (length (changed l w))) (writes j) (not-writes j) (sym verdict-is ∙ is) in
+        let verdict : writes (length (changed l w)) ≡ writes j = sym (verdict-is ∙ first-passed refused rules (writes (length (changed l w))) e) ∙ is in
+        let k : length (changed l w) ≡ j = cc in
+        rw (← k) (passed e)
 
     -- and the other way
     pub writes-changed : {ss : List Store} → commitPlan accept l w ≡ store ss → judge accept (capacity l₀) b w ≡ writes (length (changed l w))
-    writes-changed {ss} is = by-test (eqb (length w) (length (b .kept)))
-        (λ long. by-test (accept w)
-        (λ fine. by-test (leb (length (changed l w)) (capacity l₀))
-        (λ fit. verdict-is ∙ rw (long, fine, fit))
-        (λ fit. no 13 (sym (plan-is ∙ rw (long, fine, fit)) ∙ is)))
-        (λ fine. no 7 (sym (plan-is ∙ rw (long, fine)) ∙ is)))
-        (λ long. no 6 (sym (plan-is ∙ rw long) ∙ is))
-      where
-        no : (r : ℕ) → refuse r ≡ store ss → judge accept (capacity l₀) b w ≡ writes (length (changed l w))
-        no r e = let z : _≡_ {A = ℕ} 0 1 = cc in absurd (omega arith)
+    writes-changed {ss} is = verdict-is ∙ first-passed refused rules (writes (length (changed l w))) (unrefused refuse rules (store stored) (store ss) (not-store ss) (sym plan-is ∙ is))
 
     commit-settled : Step accept l₀ l b (commit w n v)
-    commit-settled = by-test (eqb (length w) (length (b .kept)))
-        (λ long. by-test (accept w)
-        (λ fine. by-test (leb (length (changed l w)) (capacity l₀))
-        (λ fit.
-        let plan = plan-is ∙ rw (long, fine, fit) in
-        let verdict = verdict-is ∙ rw (long, fine, fit) in
-        let same : length w ≡ 64 * pages l = eqb-true _ _ long ∙ sym kept-long in
+    commit-settled = by-refusal rules
+        (λ r e. commit-refused w n v r (plan-is ∙ first-refused refuse rules r (store stored) e) (verdict-is ∙ first-refused refused rules r (writes (length (changed l w))) e))
+        (λ e.
+        let p : Writing accept l w (length (changed l w)) = passed e in
+        let verdict = verdict-is ∙ first-passed refused rules (writes (length (changed l w))) e in
         by-lt 0 (length (changed l w))
-        (λ some. commit-some same (omega (arith, leb-true (length (changed l w)) (capacity l₀) fit, capacity-same (t .head))) some fine plan verdict)
-        (λ none. commit-nothing plan verdict (omega arith)))
-        (λ fit. commit-refused w n v 13 (plan-is ∙ rw (long, fine, fit)) (verdict-is ∙ rw (long, fine, fit))))
-        (λ fine. commit-refused w n v 7 (plan-is ∙ rw (long, fine)) (verdict-is ∙ rw (long, fine))))
-        (λ long. commit-refused w n v 6 (plan-is ∙ rw long) (verdict-is ∙ rw long))
+        (λ some. commit-some (p .same) (p .fit) some (kept-passed accept (capacity l₀) (b .kept) w e .1) (p .plan) verdict)
+        (λ z. commit-nothing (p .plan) verdict (omega arith)))
 
   -- ---- any call
 

@@ -6,12 +6,13 @@ use mathlib.Core.List.{List, [], _∷_}
 use lib.ListN.{length, getD}
 use lib.Dec.{leb, eqb}
 use Rattle.wire.specs.Bytes.{pick}
+use Rattle.wire.specs.Rules.{Rule, rule, first}
 use Rattle.redo.specs.Store.{Store}
 use Rattle.redo.specs.Image.{capacity, recordPages, mark, home}
 use Rattle.log.specs.declared.Outcome.{Outcome}
 use Rattle.log.specs.declared.Outcome.the-variants.{Done, Cut, Refused}
 use Rattle.log.specs.Calls.{Plan, answer, after, recoverPlan}
-use Rattle.log.specs.Book.{Call, commit, recover, allowance, planOf, rest, Seen, seen, trace, Verdict, refused, writes, judgeBy, needBy, commitNeed, report, answerTo}
+use Rattle.log.specs.Book.{Call, commit, recover, allowance, planOf, rest, Seen, seen, trace, Verdict, refused, differing, writes, keptRules, needBy, commitNeed, report, answerTo}
 
 -- ---- the book: it is not told of bytes
 
@@ -23,9 +24,13 @@ pub record Plain : Type 0 where
 unfoldable pub plainStart : List ℕ → Plain
 plainStart H = record { kept = H; owed = 0 }
 
--- 3 if p isn't 0; else 6, 7, 13
+-- "3 if p isn't 0"; else 6, 7, 13
+unfoldable pub plainRules : (List ℕ → Bool) → ℕ → Plain → List ℕ → List Rule
+unfolding keptRules
+plainRules accept L p w = rule 3 (not (eqb (p .owed) 0)) ∷ keptRules accept L (p .kept) w
+
 unfoldable pub plainJudge : (List ℕ → Bool) → ℕ → Plain → List ℕ → Verdict
-plainJudge accept L p w = judgeBy (eqb (p .owed) 0) accept L (p .kept) w
+plainJudge accept L p w = first refused (plainRules accept L p w) (writes (differing (p .kept) w))
 
 -- 64p + 1, or none if p is 0
 unfoldable pub plainNeed : Plain → ℕ

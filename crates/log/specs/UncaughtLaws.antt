@@ -10,6 +10,7 @@ use lib.Dec.{leb, eqb}
 use borrow.Author.Tests.{le-leb, lt-leb, ne-eqb}
 use Rattle.wire.specs.Bytes.{pick}
 use Rattle.wire.specs.Cases.{by-test, by-eq, by-lt}
+use Rattle.wire.specs.Rules.{first}
 use Rattle.redo.specs.Store.{Store, apply, halfway}
 use Rattle.redo.specs.StoreLaws.{apply-none, apply-take-append, length-apply}
 use Rattle.redo.specs.Image.{capacity, mark, homeAt, home, headOk}
@@ -20,13 +21,14 @@ use Rattle.redo.specs.Stage.{take-min}
 use Rattle.log.specs.declared.Outcome.{Outcome}
 use Rattle.log.specs.Calls.{Plan, refuse, store, answer, after, changed, logOf, recoverPlan, commitPlan}
 use Rattle.log.specs.CallLaws.{log-right, log-mark-same, log-standing, recover-standing}
-use Rattle.log.specs.Book.{Call, commit, recover, allowance, value, planOf, rest, caught, Seen, seen, told, trace, final, Book, start, logs, toldMark, recovering, committing, Verdict, refused, writes, judge, needBy, recoverNeed, report, answerTo, bookAt, foretold, next, bookAfter}
+use Rattle.log.specs.Book.{Call, commit, recover, allowance, value, planOf, rest, caught, Seen, seen, told, trace, final, Book, start, logs, toldMark, recovering, committing, Verdict, refused, writes, bookRules, judge, needBy, recoverNeed, report, answerTo, bookAt, foretold, next, bookAfter}
+use Rattle.log.specs.Answers.{recover-committed}
 use Rattle.log.specs.Logged.{remark-mark, long-log, log-long, long-changes}
 use Rattle.log.specs.BookLaws.{need-clear, need-marked, some-commit, recovering-done, recovering-last, recovering-cut, committing-early, committing-mark, committing-late, writes-clear}
-use Rattle.log.specs.Holds.{State, settled, owing, spoiled, Holds, recover-committed}
+use Rattle.log.specs.Holds.{State, settled, owing, spoiled, Holds}
 use Rattle.log.specs.Steps.{step, recover-goes, Writing, writing}
 use Rattle.log.specs.Claim.{Starts, Claim, begins, claim}
-use Rattle.log.specs.Uncaught.{Plain, plainStart, plainJudge, plainNeed, markStored, plainAt, plainForetold, plainNext, plainAfter, plainLeft, plainTold, plainLedger, Uncaught, end, and, stood, telling, still, PlainClaim}
+use Rattle.log.specs.Uncaught.{Plain, plainStart, plainRules, plainJudge, plainNeed, markStored, plainAt, plainForetold, plainNext, plainAfter, plainLeft, plainTold, plainLedger, Uncaught, end, and, stood, telling, still, PlainClaim}
 
 -- H and p are the same, and the mark is 0 if p is 0, otherwise 165
 pub record Same (b : Book) (p : Plain) : Type 0 where
@@ -152,7 +154,7 @@ module _ (accept : List ℕ → Bool) (l₀ : List ℕ) (ok₀ : headOk l₀ ≡
   -- ---- commit
 
   same-verdict : (w : List ℕ) → judge accept (capacity l₀) b w ≡ plainJudge accept (capacity l₀) p w
-  unfolding judge plainJudge
+  unfolding judge bookRules plainJudge plainRules first
   same-verdict w = by-test (eqb (p .owed) 0)
       (λ z. rw (s .mark, s .kept, z))
       (λ z. rw (s .mark, s .kept, z))

@@ -8,15 +8,15 @@ use redo::stages;
 ghost use mathlib.Core.Path.{_≡_};
 ghost use mathlib.Core.Bool.{true};
 ghost use mathlib.Core.List.{[]};
-ghost use Prim.Native.Nat.{_<_};
+ghost use Prim.Native.Nat.{_+_, _<_};
 ghost use lib.ListN.{length, drop};
 ghost use lib.Dec.{leb};
 ghost use Rattle.wire.specs.Bytes.{pick};
-ghost use Rattle.redo.specs.Image.{headOk, home as homeOf, inRange, imageLength};
+ghost use Rattle.redo.specs.Image.{mark, homeAt, headOk, home as homeOf, inRange, imageLength};
 ghost use Rattle.redo.specs.Entry.{changes, Loggable};
 ghost use Rattle.redo.specs.Stores.{formatStores, clearMark, commitStores};
 ghost use Rattle.log.specs.Head.{headOf};
-ghost use Rattle.log.specs.Calls.{answer, after, store, formatPlan, recoverPlan, committedPlan, commitPlan, clearPlan, anyBytes};
+ghost use Rattle.log.specs.Calls.{answer, after, store, formatPlan, recoverPlan, commitPlan, anyBytes};
 
 // What a call that stores answers: done or cut, with the number of stores made, or refused with its number.
 pub enum Outcome {
@@ -60,14 +60,24 @@ fn report(need: usize, n: usize, made: usize) -> Outcome
     }
 }
 
-// Home, the last 26 + R pages, as a part of the image; empty where the head or the length is not right.
+// Home, the last 26 + R pages, as a part of an image with a right head.
+pub fn home_behind(image: &[u8]) -> &[u8]
+    requires { ⌜ headOk (now image) ≡ true ⌝ }
+    ensures { λ r. ⌜ now r ≡ homeOf (now (image .entry)) ⌝ }
+    ensures { λ r. ⌜ (r .ptr .0 ≡ image .entry .ptr .0) × (r .ptr .1 ≡ image .entry .ptr .1 + homeAt (now (image .entry))) ⌝ }
+{
+    let at = 64 + 66 * wire::get16(image, 4);
+    let end = image.len();
+    &image[at..end]
+}
+
+// The same of any image; empty where the head or the length is not right.
 pub fn home(image: &[u8]) -> &[u8]
     ensures { λ r. ⌜ now r ≡ pick (headOk (now (image .entry))) (homeOf (now (image .entry))) [] ⌝ }
+    ensures { λ r. ⌜ (r .ptr .0 ≡ image .entry .ptr .0) × (r .ptr .1 ≡ image .entry .ptr .1 + pick (headOk (now (image .entry))) (homeAt (now (image .entry))) 0) ⌝ }
 {
     if sizes::head_ok(image) {
-        let at = 64 + 66 * wire::get16(image, 4);
-        let end = image.len();
-        &image[at..end]
+        home_behind(image)
     } else {
         &image[0..0]
     }
@@ -106,9 +116,9 @@ pub fn format(image: &mut [u8], capacity: usize, pages: usize, n: usize) -> Outc
 
 // With the mark set: replays the log, if it is one that a commit can have left.
 fn recover_committed(image: &mut [u8], n: usize) -> Outcome
-    requires { ⌜ headOk (now image) ≡ true ⌝ }
-    ensures { λ r. ⌜ r ≡ answer (committedPlan (now (image .entry))) n ⌝ }
-    ensures { λ _. ⌜ now (image .exit) ≡ after (committedPlan (now (image .entry))) n (now (image .entry)) ⌝ }
+    requires { ⌜ (headOk (now image) ≡ true) × (mark (now image) ≡ 165) ⌝ }
+    ensures { λ r. ⌜ r ≡ answer (recoverPlan (now (image .entry))) n ⌝ }
+    ensures { λ _. ⌜ now (image .exit) ≡ after (recoverPlan (now (image .entry))) n (now (image .entry)) ⌝ }
 {
     let capacity = wire::get16(image, 4);
     let pages = 26 + wire::get16(image, 6);
@@ -174,9 +184,9 @@ fn commit_pages(
 
 // With the mark clear: 6, 13, or the stores.
 fn commit_clear(image: &mut [u8], space: &[u8], n: usize) -> Outcome
-    requires { ⌜ headOk (now image) ≡ true ⌝ }
-    ensures { λ r. ⌜ r ≡ answer (clearPlan anyBytes (now (image .entry)) (now (space .entry))) n ⌝ }
-    ensures { λ _. ⌜ now (image .exit) ≡ after (clearPlan anyBytes (now (image .entry)) (now (space .entry))) n (now (image .entry)) ⌝ }
+    requires { ⌜ (headOk (now image) ≡ true) × (mark (now image) ≡ 0) ⌝ }
+    ensures { λ r. ⌜ r ≡ answer (commitPlan anyBytes (now (image .entry)) (now (space .entry))) n ⌝ }
+    ensures { λ _. ⌜ now (image .exit) ≡ after (commitPlan anyBytes (now (image .entry)) (now (space .entry))) n (now (image .entry)) ⌝ }
 {
     let pages = 26 + wire::get16(image, 6);
     if space.len() != 64 * pages {

@@ -1,14 +1,12 @@
 -- What a move of one block does to the record area.
 use mathlib.Core.Path.{_≡_, refl, sym, ap, _∙_}
 use mathlib.Core.Logic.{inl, inr}
-use mathlib.Core.List.{List, [], _∷_}
-use Prim.Native.Nat.{ℕ, _+_, _*_, _-_, _≤_, _<_}
+use mathlib.Core.List.{List, _∷_}
+use Prim.Native.Nat.{ℕ, _+_, _*_, _-_, _≤_}
 use native.Mathlib.Omega.{arith}
-use lib.ListN.{length, getD, replicate, length-replicate}
-use lib.Seq.{ext-getD}
+use lib.ListN.{length, replicate, length-replicate}
 use Rattle.wire.specs.Bytes.{part, over}
-use Rattle.wire.specs.BytesLaws.{length-over, over-low, over-high, part-at}
-use Rattle.wire.specs.Cases.{by-within}
+use Rattle.wire.specs.BytesLaws.{Clear, over-again, over-same, over-comm}
 use Rattle.wire.specs.All.{All, more, all-map, all-head, all-tail}
 use Rattle.home.specs.Capacities.{cells}
 use Rattle.home.specs.Zones.{Block, Zone}
@@ -16,69 +14,15 @@ use Rattle.home.specs.Perm.{Perm, pnil, pskip, pswap, ptrans, Pairs, after}
 use Rattle.home.specs.PermLaws.{pall, ppairs, pairs-head}
 use Rattle.home.specs.Layout.{Fit}
 use Rattle.home.specs.Bytes.{Spot, spots, paint, area, blockBytes}
-use Rattle.home.specs.BytesLaws.{Clear, part-else, part-zeros}
-use Rattle.home.specs.AreaLaws.{Good, Apart, bytesOf, Reads, spots-apart, spots-good, length-block, length-paint, area-reads}
+use Rattle.home.specs.BytesLaws.{part-zeros}
+use Rattle.home.specs.AreaLaws.{Good, Apart, bytesOf, Reads, spots-apart, spots-good, length-block, length-paint, area-reads, clear8, paint-else}
 use Rattle.moves.specs.Moves.{carried}
-use Rattle.moves.specs.MovesLaws.{at-in}
-
--- ---- bytes written twice, in either order, and as they were
-
--- the same place written again
-pub over-again : (l : List ℕ) (i : ℕ) (v w : List ℕ) → length v ≡ length w → i + length v ≤ length l → over (over l i w) i v ≡ over l i v
-over-again l i v w e b =
-    ext-getD 0 (over (over l i w) i v) (over l i v) (length-over (over l i w) i v ∙ length-over l i w ∙ sym (length-over l i v))
-    (λ k g. let lk : k < length l = omega (arith, length-over (over l i w) i v, length-over l i w) in
-    by-within i (length v) k
-    (λ a. over-low (over l i w) i v k a ∙ over-low l i w k a ∙ sym (over-low l i v k a))
-    (λ a c. at-in (over l i w) i v k a c (omega (arith, length-over l i w)) ∙ sym (at-in l i v k a c lk))
-    (λ a. over-high (over l i w) i v k a ∙ over-high l i w k (omega arith) ∙ sym (over-high l i v k a)))
-
-pub over-same : (l : List ℕ) (i : ℕ) (v : List ℕ) → i + length v ≤ length l → part l i (length v) ≡ v → over l i v ≡ l
-over-same l i v b e =
-    ext-getD 0 (over l i v) l (length-over l i v)
-    (λ k g. by-within i (length v) k
-    (λ a. over-low l i v k a)
-    (λ a c. at-in l i v k a c (omega (arith, length-over l i v)) ∙ ap (λ (x : List ℕ). getD x (k - i) 0) (sym e) ∙ part-at l i (length v) (k - i) (omega arith) ∙ ap (λ (j : ℕ). getD l j 0) (omega arith))
-    (λ a. over-high l i v k a))
-
-pub over-comm : (l : List ℕ) (i : ℕ) (v : List ℕ) (j : ℕ) (w : List ℕ) → Clear i (length v) j (length w) → over (over l j w) i v ≡ over (over l i v) j w
-over-comm l i v j w c =
-    ext-getD 0 (over (over l j w) i v) (over (over l i v) j w) (length-over (over l j w) i v ∙ length-over l j w ∙ sym (length-over (over l i v) j w ∙ length-over l i v))
-    (λ k g. at c k (omega (arith, length-over (over l j w) i v, length-over l j w)))
-  where
-    at : Clear i (length v) j (length w) → (k : ℕ) → k < length l → getD (over (over l j w) i v) k 0 ≡ getD (over (over l i v) j w) k 0
-    at (inl d) k g = by-within i (length v) k
-        (λ e. over-low (over l j w) i v k e ∙ over-low l j w k (omega arith) ∙ sym (over-low (over l i v) j w k (omega arith) ∙ over-low l i v k e))
-        (λ e f. at-in (over l j w) i v k e f (omega (arith, length-over l j w)) ∙ sym (over-low (over l i v) j w k (omega arith) ∙ at-in l i v k e f g))
-        (λ e. over-high (over l j w) i v k e ∙ by-within j (length w) k
-        (λ x. over-low l j w k x ∙ sym (over-low (over l i v) j w k x ∙ over-high l i v k e))
-        (λ x y. at-in l j w k x y g ∙ sym (at-in (over l i v) j w k x y (omega (arith, length-over l i v))))
-        (λ x. over-high l j w k x ∙ sym (over-high (over l i v) j w k x ∙ over-high l i v k e)))
-    at (inr d) k g = by-within j (length w) k
-        (λ e. over-low (over l j w) i v k (omega arith) ∙ over-low l j w k e ∙ sym (over-low (over l i v) j w k e ∙ over-low l i v k (omega arith)))
-        (λ e f. over-low (over l j w) i v k (omega arith) ∙ at-in l j w k e f g ∙ sym (at-in (over l i v) j w k e f (omega (arith, length-over l i v))))
-        (λ e. by-within i (length v) k
-        (λ x. over-low (over l j w) i v k x ∙ over-high l j w k e ∙ sym (over-high (over l i v) j w k e ∙ over-low l i v k x))
-        (λ x y. at-in (over l j w) i v k x y (omega (arith, length-over l j w)) ∙ sym (over-high (over l i v) j w k e ∙ at-in l i v k x y g))
-        (λ x. over-high (over l j w) i v k x ∙ over-high l j w k e ∙ sym (over-high (over l i v) j w k e ∙ over-high l i v k x)))
 
 -- ---- blocks written in any order
-
-clear8 : (i n j m : ℕ) → Clear i n j m → Clear (8 * i) (8 * n) (8 * j) (8 * m)
-clear8 i n j m (inl h) = inl (omega arith)
-clear8 i n j m (inr h) = inr (omega arith)
 
 pub apart-sym : (s t : Spot) → Apart s t → Apart t s
 apart-sym s t (inl h) = inr h
 apart-sym s t (inr h) = inl h
-
-paint-else : (n j m : ℕ) (ss : List Spot) (a : List ℕ) → All (Good n) ss → All (λ (s : Spot). Clear (s .cell) (cells (s .class)) j m) ss
-    → part (paint ss a) (8 * j) (8 * m) ≡ part a (8 * j) (8 * m)
-unfolding paint
-paint-else n j m [] a g h = refl
-paint-else n j m (s ∷ ss) a (more x g) (more y h) =
-    part-else (paint ss a) (8 * s .cell) (bytesOf s) (8 * j) (8 * m) (rw (length-block (s .class) (s .block) (x .room)) (clear8 (s .cell) (cells (s .class)) j m y))
-    ∙ paint-else n j m ss a g h
 
 module _ (n : ℕ) (a : List ℕ) (la : length a ≡ 8 * n) where
   inside : (s : Spot) (ss : List Spot) → Good n s → 8 * s .cell + length (bytesOf s) ≤ length (paint ss a)

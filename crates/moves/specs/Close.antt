@@ -6,8 +6,7 @@ use lib.ListN.{take, drop, getD}
 use Rattle.home.specs.Capacities.{cells}
 use Rattle.home.specs.Zones.{Zone, empty, from, lowered, endOf, close}
 use Rattle.home.specs.Bytes.{encode}
-use Rattle.moves.specs.HomeLaws.{Loose}
-use Rattle.moves.specs.Stored.{endAfter}
+use Rattle.moves.specs.Stored.{endAfter, Loose}
 
 -- zone c as low as it goes above e
 unfoldable pub lowest : ℕ → ℕ → Zone → Zone

@@ -21,12 +21,12 @@ use Rattle.home.specs.AreaLaws.{Good, Reads, spots-good, area-reads}
 use Rattle.home.specs.HomeLaws.{zones-back, ReadsAt}
 use Rattle.moves.specs.JoinLaws.{join-part}
 use Rattle.moves.specs.StateLaws.{ld}
-use Rattle.moves.specs.HomeLaws.{Loose, length-zones, fine, encode-state}
+use Rattle.moves.specs.HomeLaws.{length-zones, fine, encode-state}
 use Rattle.moves.specs.Moves.{Movable, zoned, moved}
 use Rattle.moves.specs.SpotLaws.{spot, in-context, init-last, length-init, lower-before}
 use Rattle.moves.specs.StepLaws.{firstOf, manyOf, home-lowered}
 use Rattle.moves.specs.LooseLaws.{length-loose, entries-loose, zone-at, movable, fit-lower, fit-above, loose-joined}
-use Rattle.moves.specs.Stored.{endAfter}
+use Rattle.moves.specs.Stored.{endAfter, Loose}
 use Rattle.moves.specs.AtLaws.{at-zone, take-here, drop-next, zone-here, take-next, drop-here, end-next}
 use Rattle.moves.specs.Close.{lowest, zoneOf, lowBytes, lowEnd, Open, closedBytes}
 

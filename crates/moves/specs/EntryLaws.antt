@@ -5,83 +5,19 @@ use mathlib.Core.List.{List, [], _∷_, _++_, append-assoc}
 use Prim.Native.Nat.{ℕ, zero, suc, _+_, _*_, _-_, _≤_, _<_}
 use native.Mathlib.Omega.{arith}
 use lib.Dec.{ltb}
-use lib.ListN.{length, drop, replicate, length-append, length-replicate, replicate-append-replicate}
-use lib.Seq.{drop-drop}
-use borrow.Author.Tests.{ltb-true, ltb-false, lt-ltb, le-ltb}
-use Rattle.wire.specs.Bytes.{pick, part, over, get16, get32, bytes16, bytes32}
-use Rattle.wire.specs.BytesLaws.{over-append, length-bytes16, length-bytes32}
+use lib.ListN.{length, replicate, length-append, length-replicate, replicate-append-replicate}
+use borrow.Author.Tests.{lt-ltb, le-ltb}
+use Rattle.wire.specs.Bytes.{pick, part, over, bytes16, bytes32}
+use Rattle.wire.specs.BytesLaws.{over-append, length-bytes16, length-bytes32, over-comm, over-seam}
 use Rattle.wire.specs.Cases.{by-lt}
 use Rattle.wire.specs.All.{All, none, more, all-map}
-use Rattle.home.specs.Perm.{Perm, pnil, pskip, pswap, ptrans, Pairs, single, after}
-use Rattle.home.specs.PermLaws.{prefl, psym, pall, ppairs}
-use Rattle.home.specs.Cases.{by-pick}
-use Rattle.home.specs.Bytes.{Entry, enter, sorted, entriesBytes, padded, tagAt, placeAt, entriesAt}
-use Rattle.home.specs.BytesLaws.{get16-front, get32-front, part-join}
-use Rattle.home.specs.HomeLaws.{get16-at, get32-at, length-entriesBytes}
-use Rattle.home.specs.DictionaryLaws.{Else, Below}
+use Rattle.home.specs.Perm.{Pairs, after}
+use Rattle.home.specs.PermLaws.{psym, pall}
+use Rattle.home.specs.Bytes.{Entry, enter, sorted, entriesBytes, padded, tagAt, entriesAt}
+use Rattle.home.specs.BytesLaws.{part-join}
+use Rattle.home.specs.HomeLaws.{length-entriesBytes}
+use Rattle.home.specs.DictionaryLaws.{Else, Below, enter-on, enter-first, sorted-rising, perm-sorted}
 use Rattle.home.specs.Lookup.{rankAt}
-use Rattle.moves.specs.JoinLaws.{over-seam}
-use Rattle.moves.specs.AreaLaws.{over-comm}
-
--- ---- the order in which entries are sorted does not matter
-
-enter-here : (x y : Entry) (ys : List Entry) → x .tag < y .tag → enter x (y ∷ ys) ≡ x ∷ y ∷ ys
-unfolding enter
-enter-here x y ys h = rw (lt-ltb (x .tag) (y .tag) h)
-
-enter-on : (x y : Entry) (ys : List Entry) → y .tag ≤ x .tag → enter x (y ∷ ys) ≡ y ∷ enter x ys
-unfolding enter
-enter-on x y ys h = rw (le-ltb (x .tag) (y .tag) h)
-
-enter-lower : (x y : Entry) (zs : List Entry) → x .tag < y .tag → enter x (enter y zs) ≡ enter y (enter x zs)
-unfolding enter
-enter-lower x y [] h = enter-here x y [] h ∙ sym (enter-on y x [] (omega arith))
-enter-lower x y (z ∷ zs) h = by-lt (x .tag) (z .tag)
-    (λ a. by-lt (y .tag) (z .tag)
-    (λ b. ap (enter x) (enter-here y z zs b) ∙ enter-here x y (z ∷ zs) h
-    ∙ sym (ap (enter y) (enter-here x z zs a) ∙ enter-on y x (z ∷ zs) (omega arith) ∙ ap (λ (l : List Entry). x ∷ l) (enter-here y z zs b)))
-    (λ b. ap (enter x) (enter-on y z zs b) ∙ enter-here x z (enter y zs) a
-    ∙ sym (ap (enter y) (enter-here x z zs a) ∙ enter-on y x (z ∷ zs) (omega arith) ∙ ap (λ (l : List Entry). x ∷ l) (enter-on y z zs b))))
-    (λ a. ap (enter x) (enter-on y z zs (omega arith)) ∙ enter-on x z (enter y zs) a ∙ ap (λ (l : List Entry). z ∷ l) (enter-lower x y zs h)
-    ∙ sym (enter-on y z (enter x zs) (omega arith)) ∙ ap (enter y) (sym (enter-on x z zs a)))
-
-pub else-sym : (x y : Entry) → Else x y → Else y x
-else-sym x y h e = h (sym e)
-
-pub sorted-perm : {xs ys : List Entry} → Perm xs ys → Pairs Else xs → sorted xs ≡ sorted ys
-unfolding sorted
-sorted-perm pnil h = refl
-sorted-perm (pskip x p) (after a h) = ap (enter x) (sorted-perm p h)
-sorted-perm (pswap x y xs) (after (more o a) h) = by-lt (x .tag) (y .tag) (λ a. enter-lower x y (sorted xs) a) (λ a. sym (enter-lower y x (sorted xs) (omega arith)))
-sorted-perm (ptrans p q) h = sorted-perm p h ∙ sorted-perm q (ppairs Else else-sym p h)
-
-enter-perm : (x : Entry) (ys : List Entry) → Perm (enter x ys) (x ∷ ys)
-unfolding enter
-enter-perm x [] = prefl (x ∷ [])
-enter-perm x (y ∷ ys) = by-pick (λ (l : List Entry). Perm l (x ∷ y ∷ ys)) (ltb (x .tag) (y .tag)) (λ t. prefl (x ∷ y ∷ ys)) (λ t. ptrans (pskip y (enter-perm x ys)) (pswap y x ys))
-
-pub perm-sorted : (xs : List Entry) → Perm (sorted xs) xs
-unfolding sorted
-perm-sorted [] = pnil
-perm-sorted (x ∷ xs) = ptrans (enter-perm x (sorted xs)) (pskip x (perm-sorted xs))
-
-enter-rising : (x : Entry) (ys : List Entry) → All (Else x) ys → Pairs Below ys → Pairs Below (enter x ys)
-unfolding enter
-enter-rising x [] o h = after none single
-enter-rising x (y ∷ ys) (more o os) (after a h) = by-pick (Pairs Below) (ltb (x .tag) (y .tag))
-    (λ t. let b : x .tag < y .tag = ltb-true (x .tag) (y .tag) t in after (more b (all-map {P = Below y} {Q = Below x} (λ z k. omega arith) a)) (after a h))
-    (λ t. let b : y .tag ≤ x .tag = ltb-false (x .tag) (y .tag) t in
-    let b' : y .tag < x .tag = omega arith in
-    after (pall (Below y) (psym (enter-perm x ys)) (more b' a)) (enter-rising x ys os h))
-
-pub sorted-rising : (xs : List Entry) → Pairs Else xs → Pairs Below (sorted xs)
-unfolding sorted
-sorted-rising [] h = single
-sorted-rising (x ∷ xs) (after a h) = enter-rising x (sorted xs) (pall (Else x) (psym (perm-sorted xs)) a) (sorted-rising xs h)
-
-pub rising-else : (xs : List Entry) → Pairs Below xs → Pairs Else xs
-rising-else [] h = single
-rising-else (x ∷ xs) (after a h) = after (all-map {P = Below x} {Q = Else x} (λ y b. omega arith) a) (rising-else xs h)
 
 -- ---- a tag that no entry has parts the entries in lower and higher ones
 
@@ -103,8 +39,7 @@ parted t (d ∷ ds) (after a p) (more o os) =
 
 enter-at : (x : Entry) (pre post : List Entry) → All (λ (d : Entry). d .tag < x .tag) pre → All (λ (d : Entry). x .tag < d .tag) post → enter x (pre ++ post) ≡ pre ++ x ∷ post
 unfolding enter
-enter-at x [] [] l h = refl
-enter-at x [] (y ∷ post) l (more b h) = enter-here x y post b
+enter-at x [] post l h = enter-first x post h
 enter-at x (y ∷ pre) post (more b l) h = enter-on x y (pre ++ post) (omega arith) ∙ ap (λ (m : List Entry). y ∷ m) (enter-at x pre post l h)
 
 -- the others of x, parted by its tag
@@ -232,20 +167,3 @@ module _ (pre post : List Entry) where
     where
       regroup : (z : List ℕ) → front ++ ((word x ++ back) ++ z) ≡ (front ++ word x) ++ (back ++ z)
       regroup z = simp append-assoc
-
--- ---- the entries read back
-
-pub record Small (d : Entry) : Type 0 where
-  pub tag : d .tag < 4294967296
-  pub cell : d .cell < 65536
-
-pub entries-back : (h : List ℕ) (i : ℕ) (ds : List Entry) (rest : List ℕ) → drop (128 + 6 * i) h ≡ entriesBytes ds ++ rest → All Small ds → entriesAt h i (length ds) ≡ ds
-unfolding entriesAt entriesBytes bytes32 bytes16 get32 get16
-entries-back h i [] rest e p = refl
-entries-back h i (d ∷ ds) rest e (more p ps) =
-    let at : ℕ = 128 + 6 * i in
-    let next : 128 + 6 * suc i ≡ at + 6 = omega arith in
-    let qt : tagAt h i ≡ d .tag = get32-at h (entriesBytes (d ∷ ds) ++ rest) at e ∙ get32-front (d .tag) [] (p .tag) in
-    let qc : placeAt h i ≡ d .cell = get16-at h (entriesBytes (d ∷ ds) ++ rest) at 4 e ∙ get16-front (d .cell) [] (p .cell) in
-    ap₂ {A = Entry} {B = List Entry} _∷_ (λ j. record { tag = qt j; cell = qc j })
-    (entries-back h (suc i) ds rest (ap (λ (k : ℕ). drop k h) next ∙ sym (drop-drop 6 at h) ∙ ap (drop 6) e) ps)

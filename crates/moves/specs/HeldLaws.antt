@@ -11,7 +11,7 @@ use Rattle.wire.specs.All.{All, none, more, all-map, all-head, all-tail}
 use Rattle.home.specs.Capacities.{cells}
 use Rattle.home.specs.Zones.{Block, Zone, empty, from, endOf}
 use Rattle.home.specs.Perm.{Perm, Pairs, single, after}
-use Rattle.home.specs.PermLaws.{psym, plength, pall, ppairs, pairs-head}
+use Rattle.home.specs.PermLaws.{psym, plength, pall, ppairs, pairs-head, pmap}
 use Rattle.home.specs.Valid.{Other}
 use Rattle.home.specs.Layout.{Sits, Fit}
 use Rattle.home.specs.FindLaws.{pdistinct}
@@ -19,15 +19,16 @@ use Rattle.home.specs.Bytes.{Spot, row, spots, paint, Entry, entryOf, sorted, d
 use Rattle.home.specs.BytesLaws.{chop, get32-front}
 use Rattle.home.specs.AreaLaws.{Good, Apart, Reads, bytesOf, length-block, length-paint}
 use Rattle.home.specs.HomeLaws.{get32-at}
-use Rattle.home.specs.DictionaryLaws.{Else, Below}
+use Rattle.home.specs.DictionaryLaws.{Else, Below, sorted-perm, sorted-rising, perm-sorted, pairs-of}
+use Rattle.home.specs.EntriesLaws.{Small, small-entries}
 use Rattle.moves.specs.Moves.{Movable, carried, zoned, moved}
 use Rattle.moves.specs.JoinLaws.{join-length}
 use Rattle.moves.specs.AreaLaws.{apart-sym, paint-perm, paint-gone}
-use Rattle.moves.specs.EntryLaws.{Small, perm-sorted, sorted-perm, sorted-rising, Parted, kept, sorted-one}
+use Rattle.moves.specs.EntryLaws.{Parted, kept, sorted-one}
 use Rattle.moves.specs.StateLaws.{state, Fine, ld, state-zoned, state-movable, state-moved}
-use Rattle.moves.specs.HomeLaws.{Loose, pmap, small-entries, encode-state}
+use Rattle.moves.specs.HomeLaws.{encode-state}
 use Rattle.moves.specs.SpotLaws.{spot}
-use Rattle.moves.specs.Stored.{endAfter}
+use Rattle.moves.specs.Stored.{endAfter, Loose}
 
 abbrev pub spotBlock : Spot → Block
 spotBlock s = s .block
@@ -56,14 +57,6 @@ kept-perm R p k = record {
   few = omega (arith, plength p, k .few);
 }
 
-else-all : (s : Spot) (ss : List Spot) → All (Other (s .block)) (map spotBlock ss) → All (Else (entryOf s)) (map entryOf ss)
-else-all s [] a = none
-else-all s (t ∷ ts) (more o a) = more o (else-all s ts a)
-
-else-of : (ss : List Spot) → Pairs Other (map spotBlock ss) → Pairs Else (map entryOf ss)
-else-of [] h = single
-else-of (s ∷ ss) (after a h) = after (else-all s ss a) (else-of ss h)
-
 module _ (R : ℕ) (small : R ≤ 1024) (es : List ℕ) (le : length es ≡ 120) where
   abbrev zeros : List ℕ
   zeros = replicate (8 * (8 * R)) 0
@@ -80,7 +73,7 @@ module _ (R : ℕ) (small : R ≤ 1024) (es : List ℕ) (le : length es ≡ 120)
   -- the order in which they are named does not matter
   pub held-perm : {ss ts : List Spot} → Perm ss ts → Kept R ss → held R es ss ≡ held R es ts
   unfolding held
-  held-perm {ss = ss} p k = ap₂ (state es) (sorted-perm (pmap entryOf p) (else-of ss (k .distinct))) (paint-perm (8 * R) zeros lz p (k .good) (k .apart))
+  held-perm {ss = ss} p k = ap₂ (state es) (sorted-perm (pmap entryOf p) (pairs-of ss (k .distinct))) (paint-perm (8 * R) zeros lz p (k .good) (k .apart))
 
   pub held-long : (ss : List Spot) → Kept R ss → length (held R es ss) ≡ 1664 + 64 * R
   unfolding held
@@ -115,7 +108,7 @@ module _ (R : ℕ) (small : R ≤ 1024) (es : List ℕ) (le : length es ≡ 120)
       let x : Entry = entryOf s in
       let xs : List Entry = map entryOf ss in
       let a : List ℕ = paint (s ∷ ss) zeros in
-      let o : Pairs Else (x ∷ xs) = else-of (s ∷ ss) (k .distinct) in
+      let o : Pairs Else (x ∷ xs) = pairs-of (s ∷ ss) (k .distinct) in
       let t : Parted (x .tag) (sorted xs) = kept x xs o in
       let d : sorted (x ∷ xs) ≡ t .pre ++ x ∷ t .post = sorted-one x xs t in
       subst (λ (l : List Entry). Movable (state es l a) (s .cell)) (sym d)
@@ -130,7 +123,7 @@ module _ (R : ℕ) (small : R ≤ 1024) (es : List ℕ) (le : length es ≡ 120)
       let x' : Entry = entryOf (spot (s .class) q (s .block)) in
       let xs : List Entry = map entryOf ss in
       let a : List ℕ = paint (s ∷ ss) zeros in
-      let t : Parted (x .tag) (sorted xs) = kept x xs (else-of (s ∷ ss) (k .distinct)) in
+      let t : Parted (x .tag) (sorted xs) = kept x xs (pairs-of (s ∷ ss) (k .distinct)) in
       let d : sorted (x ∷ xs) ≡ t .pre ++ x ∷ t .post = sorted-one x xs t in
       let d' : sorted (x' ∷ xs) ≡ t .pre ++ x' ∷ t .post = sorted-one x' xs t in
       let gone : over a (8 * s .cell) (replicate (8 * cells (s .class)) 0) ≡ paint ss zeros =

@@ -5,42 +5,25 @@ use Prim.Native.Nat.{ℕ, _+_, _*_, _≤_, _<_}
 use native.Mathlib.Omega.{arith}
 use lib.ListN.{length, drop, replicate, length-append}
 use Rattle.wire.specs.Bytes.{over, get32, bytes16, bytes32}
-use Rattle.wire.specs.All.{All, none, more, all-append, all-head}
+use Rattle.wire.specs.All.{all-append, all-head}
 use Rattle.home.specs.Capacities.{cells}
-use Rattle.home.specs.CapacitiesLaws.{cells-pos}
-use Rattle.home.specs.Zones.{Block, Zone, blocks}
-use Rattle.home.specs.Perm.{Perm, pnil, pskip, pswap, ptrans, Pairs}
-use Rattle.home.specs.PermLaws.{prefl, psym, pall, ppairs, pairs-tail, all-left, all-right}
-use Rattle.home.specs.Valid.{Other}
-use Rattle.home.specs.Layout.{Sits, Fit}
+use Rattle.home.specs.Zones.{Block, Zone}
+use Rattle.home.specs.Perm.{Perm, pswap, ptrans, Pairs}
+use Rattle.home.specs.PermLaws.{prefl, pall, ppairs, pairs-tail, all-left, all-right, pmap}
+use Rattle.home.specs.Layout.{Sits}
 use Rattle.home.specs.Bytes.{Spot, spots, Entry, entryOf, sorted, dictionary, padded, entries, area, encode, blockBytes, cellAt}
 use Rattle.home.specs.BytesLaws.{chop, get32-front}
-use Rattle.home.specs.AreaLaws.{Good, Reads, bytesOf, spots-sit, spots-good, area-reads}
+use Rattle.home.specs.AreaLaws.{Reads, bytesOf, spots-sit, area-reads}
 use Rattle.home.specs.HomeLaws.{get32-at, length-entries, length-dictionary}
-use Rattle.home.specs.DictionaryLaws.{Else, Below, dictionary-rising, dictionary-perm}
+use Rattle.home.specs.DictionaryLaws.{Else, Below, dictionary-rising, dictionary-perm, else-sym, sorted-perm, sorted-rising, rising-else}
+use Rattle.home.specs.EntriesLaws.{Small, dictionary-small}
 use Rattle.moves.specs.Moves.{Movable, carried, zoned, moved, entered, unentered}
 use Rattle.moves.specs.JoinLaws.{join}
 use Rattle.moves.specs.AreaLaws.{area-gone, area-added, area-moved, area-filled, area-rewritten}
-use Rattle.moves.specs.EntryLaws.{Small, else-sym, sorted-perm, sorted-rising, rising-else, Parted, kept, sorted-one}
+use Rattle.moves.specs.EntryLaws.{Parted, kept, sorted-one}
 use Rattle.moves.specs.StateLaws.{state, Fine, state-zoned, state-written, state-moved, state-movable, state-entered, state-unentered}
 use Rattle.moves.specs.SpotLaws.{spot}
-
--- a layout that is valid but for its gaps
-pub record Loose (R : ℕ) (zs : List Zone) : Type 0 where
-  pub classes : length zs ≡ 30
-  pub fit : Fit (8 * R) 0 0 zs
-  pub distinct : Pairs Other (blocks zs)
-  pub few : length (blocks zs) ≤ 256
-
-pub pmap : {A B : Type 0} (f : A → B) {xs ys : List A} → Perm xs ys → Perm (map f xs) (map f ys)
-pmap f pnil = pnil
-pmap f (pskip x p) = pskip (f x) (pmap f p)
-pmap f (pswap x y xs) = pswap (f x) (f y) (map f xs)
-pmap f (ptrans p q) = ptrans (pmap f p) (pmap f q)
-
-pub small-entries : (R : ℕ) (ss : List Spot) → R ≤ 1024 → All (λ (s : Spot). Sits (s .class) (s .block)) ss → All (Good (8 * R)) ss → All Small (map entryOf ss)
-small-entries R [] g h k = none
-small-entries R (s ∷ ss) g (more a h) (more b k) = more {x = entryOf s} (record { tag = a .tag; cell = omega (arith, b .inside, cells-pos (s .class)) }) (small-entries R ss g h k)
+use Rattle.moves.specs.Stored.{Loose}
 
 -- one entry fewer
 fine-less : (pre : List Entry) (x : Entry) (post : List Entry) → Fine (pre ++ x ∷ post) → Fine (pre ++ post)
@@ -59,7 +42,7 @@ module _ (R : ℕ) (small : R ≤ 1024) (zs : List Zone) (v : Loose R zs) where
   pub fine : Fine (dictionary zs)
   fine = record {
     few = omega (arith, v .few, length-dictionary zs);
-    small = pall Small (psym (dictionary-perm zs)) (small-entries R (spots 0 zs) small (spots-sit (8 * R) 0 0 zs (v .fit)) (spots-good (8 * R) 0 0 zs (v .fit)));
+    small = dictionary-small R zs small (v .fit);
   }
 
   pub encode-state : encode R zs ≡ state (entries zs) (dictionary zs) (area (8 * R) zs)

@@ -1,46 +1,13 @@
 -- Home's bytes as its five parts, and bytes written in one of them.
-use mathlib.Core.Path.{_≡_, refl, sym, ap, _∙_}
-use mathlib.Core.List.{List, [], _∷_, _++_, append-assoc}
-use Prim.Native.Nat.{ℕ, zero, suc, _+_, _≤_, _<_}
+use mathlib.Core.Path.{_≡_, sym, ap, _∙_}
+use mathlib.Core.List.{List, _++_, append-assoc}
+use Prim.Native.Nat.{ℕ, _+_, _≤_, _<_}
 use native.Mathlib.Omega.{arith}
-use native.Mathlib.Nat.{add-zero}
 use lib.ListN.{length, drop, replicate, length-append}
 use lib.Seq.{drop-at}
 use Rattle.wire.specs.Bytes.{part, over, get16, get32, bytes16}
-use Rattle.wire.specs.BytesLaws.{over-nil, over-whole, part-drop, length-bytes16}
+use Rattle.wire.specs.BytesLaws.{over-whole, length-bytes16, over-behind, over-ahead, part-behind, part-ahead}
 use Rattle.home.specs.BytesLaws.{get16-front, get32-drop}
-
--- ---- bytes written in one of two runs
-
-pub over-behind : (p q : List ℕ) (i k : ℕ) (bs : List ℕ) → length p ≡ i → over (p ++ q) (i + k) bs ≡ p ++ over q k bs
-unfolding over
-over-behind [] q i k bs e = let a : i + k ≡ k = omega arith in rw a
-over-behind (x ∷ p) q zero k bs e = absurd (omega arith)
-over-behind (x ∷ p) q (suc i) k bs e = let a : suc i + k ≡ suc (i + k) = omega arith in rw a (ap (_∷_ x) (over-behind p q i k bs (omega arith)))
-
-pub over-ahead : (p q : List ℕ) (k : ℕ) (bs : List ℕ) → k + length bs ≤ length p → over (p ++ q) k bs ≡ over p k bs ++ q
-unfolding over
-over-ahead [] q k [] g = over-nil q k
-over-ahead [] q k (b ∷ bs) g = absurd (omega arith)
-over-ahead (x ∷ p) q zero [] g = refl
-over-ahead (x ∷ p) q zero (b ∷ bs) g = ap (_∷_ b) (over-ahead p q zero bs (omega arith))
-over-ahead (x ∷ p) q (suc k) bs g = ap (_∷_ x) (over-ahead p q k bs (omega arith))
-
-pub part-behind : (p q : List ℕ) (i k n : ℕ) → length p ≡ i → part (p ++ q) (i + k) n ≡ part q k n
-part-behind p q i k n e = sym (part-drop (p ++ q) i k n) ∙ ap (λ (x : List ℕ). part x k n) (drop-at p q i e)
-
-part-ahead : (p q : List ℕ) (k n : ℕ) → k + n ≤ length p → part (p ++ q) k n ≡ part p k n
-unfolding part
-part-ahead p q k zero g = refl
-part-ahead [] q k (suc n) g = absurd (omega arith)
-part-ahead (x ∷ p) q zero (suc n) g = ap (_∷_ x) (part-ahead p q zero n (omega arith))
-part-ahead (x ∷ p) q (suc k) (suc n) g = part-ahead p q k (suc n) (omega arith)
-
--- a run replaced by another of its length
-pub over-seam : (p q r v : List ℕ) (i : ℕ) → length p ≡ i → length q ≡ length v → over (p ++ (q ++ r)) i v ≡ p ++ (v ++ r)
-over-seam p q r v i a b =
-    ap (λ (k : ℕ). over (p ++ (q ++ r)) k v) (sym (add-zero i)) ∙ over-behind p (q ++ r) i 0 v a
-    ∙ ap (λ (x : List ℕ). p ++ x) (over-ahead q r 0 v (omega arith) ∙ ap (λ (x : List ℕ). x ++ r) (over-whole q v (sym b)))
 
 -- ---- the five parts: tag count, zone entries, six zeros, dictionary, area
 

@@ -25,8 +25,8 @@ use Rattle.moves.specs.JoinLaws.{join-length}
 use Rattle.moves.specs.EntryLaws.{Parted, kept, sorted-one}
 use Rattle.moves.specs.StateLaws.{state, Fine, ld, state-movable}
 use Rattle.moves.specs.StepLaws.{firstOf, manyOf}
-use Rattle.moves.specs.Stored.{Stored, endAfter}
-use Rattle.moves.specs.HomeLaws.{Loose, length-zones, fine, encode-state, area-bears, others, dictionary-as}
+use Rattle.moves.specs.Stored.{Stored, endAfter, Loose}
+use Rattle.moves.specs.HomeLaws.{length-zones, fine, encode-state, area-bears, others, dictionary-as}
 
 -- ---- zones' entries
 

@@ -1,12 +1,12 @@
 -- Laws of moved bytes.
 use mathlib.Core.Path.{_≡_, sym, ap, _∙_}
-use mathlib.Core.List.{List, _++_}
+use mathlib.Core.List.{List}
 use Prim.Native.Nat.{ℕ, _+_, _*_, _-_, _≤_, _<_, min}
 use native.Mathlib.Omega.{arith}
 use lib.ListN.{length, getD, replicate, length-replicate, getD-replicate}
 use lib.Seq.{ext-getD}
 use Rattle.wire.specs.Bytes.{part, over, get16, get32, bytes16, bytes32}
-use Rattle.wire.specs.BytesLaws.{length-over, over-low, over-in, over-high, over-append, length-part, length-bytes16, length-bytes32}
+use Rattle.wire.specs.BytesLaws.{length-over, over-low, over-high, length-part, length-bytes16, length-bytes32, over-at, over-next}
 use Rattle.wire.specs.Cases.{by-lt, by-within}
 use Rattle.home.specs.Capacities.{cells}
 use Rattle.home.specs.Bytes.{entryAt, cellAt}
@@ -15,11 +15,8 @@ use Rattle.moves.specs.Moves.{carried, celled, entered, unentered, zoned
 
 -- ---- a run carried: copied first, then the bytes that it left and does not cover become zero
 
-pub at-in : (l : List ℕ) (at : ℕ) (bs : List ℕ) (i : ℕ) → at ≤ i → i < at + length bs → i < length l → getD (over l at bs) i 0 ≡ getD bs (i - at) 0
-at-in l at bs i a b c = let e : at + (i - at) ≡ i = omega arith in ap (λ (k : ℕ). getD (over l at bs) k 0) (sym e) ∙ over-in l at bs (i - at) (omega arith) (omega arith)
-
 zero-in : (l : List ℕ) (at n i : ℕ) → at ≤ i → i < at + n → i < length l → getD (over l at (replicate n 0)) i 0 ≡ 0
-zero-in l at n i a b c = at-in l at (replicate n 0) i a (omega (arith, length-replicate {A = ℕ} n 0)) c ∙ getD-replicate n (i - at) 0 0 (omega arith)
+zero-in l at n i a b c = over-at l at (replicate n 0) i a (omega (arith, length-replicate {A = ℕ} n 0)) c ∙ getD-replicate n (i - at) 0 0 (omega arith)
 
 zero-low : (l : List ℕ) (at n i : ℕ) → i < at → getD (over l at (replicate n 0)) i 0 ≡ getD l i 0
 zero-low l at n i a = over-low l at (replicate n 0) i a
@@ -51,9 +48,9 @@ module _ (l v : List ℕ) (from to n z k : ℕ) (lv : length v ≡ n) (a : from 
           by-within to n i
           (λ c. outside i g (λ d e. omega arith) (over-low l to v i c) (over-low (over l from (replicate n 0)) to v i c))
           (λ c d. by-within z k i
-          (λ e. zero-low (over l to v) z k i e ∙ at-in l to v i c (omega arith) g ∙ sym (at-in (over l from (replicate n 0)) to v i c (omega arith) (omega (arith, length-over l from (replicate n 0)))))
+          (λ e. zero-low (over l to v) z k i e ∙ over-at l to v i c (omega arith) g ∙ sym (over-at (over l from (replicate n 0)) to v i c (omega arith) (omega (arith, length-over l from (replicate n 0)))))
           (λ e f. absurd (apart i c d e f))
-          (λ e. zero-high (over l to v) z k i e ∙ at-in l to v i c (omega arith) g ∙ sym (at-in (over l from (replicate n 0)) to v i c (omega arith) (omega (arith, length-over l from (replicate n 0))))))
+          (λ e. zero-high (over l to v) z k i e ∙ over-at l to v i c (omega arith) g ∙ sym (over-at (over l from (replicate n 0)) to v i c (omega arith) (omega (arith, length-over l from (replicate n 0))))))
           (λ c. outside i g (λ d e. omega arith) (over-high l to v i (omega arith)) (over-high (over l from (replicate n 0)) to v i (omega arith)))
 
 pub carried-up : (l : List ℕ) (from to n : ℕ) → from < to → to + n ≤ length l
@@ -74,10 +71,7 @@ carried-down l from to n a b =
 
 pub zoned-twice : (h : List ℕ) (c f n : ℕ) → over (over h (entryAt c) (bytes16 f)) (entryAt c + 2) (bytes16 n) ≡ zoned h c f n
 unfolding zoned
-zoned-twice h c f n = ap (λ (k : ℕ). over (over h (entryAt c) (bytes16 f)) (entryAt c + k) (bytes16 n)) (sym (length-bytes16 f)) ∙ over-append h (entryAt c) (bytes16 f) (bytes16 n)
-
-pub word-twice : (h : List ℕ) (at t p : ℕ) → over (over h at (bytes32 t)) (at + 4) (bytes16 p) ≡ over h at (bytes32 t ++ bytes16 p)
-word-twice h at t p = ap (λ (k : ℕ). over (over h at (bytes32 t)) (at + k) (bytes16 p)) (sym (length-bytes32 t)) ∙ over-append h at (bytes32 t) (bytes16 p)
+zoned-twice h c f n = over-next h (entryAt c) (entryAt c + 2) (bytes16 f) (bytes16 n) (omega (arith, length-bytes16 f))
 
 -- ---- what the code stores, as the definitions have it
 
@@ -85,7 +79,7 @@ pub entered-is : (h : List ℕ) (t p n i : ℕ) → n ≡ get16 h 0 → i ≡ in
     → over (over (over (over h (128 + 6 * i + 6) (part h (128 + 6 * i) (6 * (n - i)))) (128 + 6 * i) (bytes32 t)) (128 + 6 * i + 4) (bytes16 p)) 0 (bytes16 (n + 1)) ≡ entered h t p
 unfolding entered
 entered-is h t p n i a b = rw (a, b) (ap (λ (x : List ℕ). over x 0 (bytes16 (get16 h 0 + 1)))
-    (word-twice (over h (128 + 6 * indexOf h t + 6) (part h (128 + 6 * indexOf h t) (6 * (get16 h 0 - indexOf h t)))) (128 + 6 * indexOf h t) t p))
+    (over-next (over h (128 + 6 * indexOf h t + 6) (part h (128 + 6 * indexOf h t) (6 * (get16 h 0 - indexOf h t)))) (128 + 6 * indexOf h t) (128 + 6 * indexOf h t + 4) (bytes32 t) (bytes16 p) (omega (arith, length-bytes32 t))))
 
 pub unentered-is : (h : List ℕ) (t n i : ℕ) → n ≡ get16 h 0 → i ≡ indexOf h t
     → over (over (over h (128 + 6 * i) (part h (128 + 6 * i + 6) (6 * (n - (i + 1))))) (128 + 6 * (n - 1)) (replicate 6 0)) 0 (bytes16 (n - 1)) ≡ unentered h t

@@ -15,10 +15,10 @@ use Rattle.home.specs.Bytes.{spots, entries, encode, decode, cellAt, firstAt, m
 use Rattle.home.specs.Sound.{pagesOf}
 use Rattle.home.specs.AreaLaws.{fit-le}
 use Rattle.moves.specs.Moves.{Movable, zoned, moved}
-use Rattle.moves.specs.HomeLaws.{Loose, length-zones}
+use Rattle.moves.specs.HomeLaws.{length-zones}
 use Rattle.moves.specs.StepLaws.{firstOf, manyOf, zone-set}
 use Rattle.moves.specs.LooseLaws.{zone-at, length-loose, fit-above}
-use Rattle.moves.specs.Stored.{endAfter}
+use Rattle.moves.specs.Stored.{endAfter, Loose}
 use Rattle.moves.specs.AtLaws.{at-zone, zone-here}
 use Rattle.moves.specs.HeldLaws.{held, held-zoned, encode-held}
 use Rattle.moves.specs.Slide.{rebased, Slides, slid, Going}

@@ -4,41 +4,24 @@ use mathlib.Core.List.{List, [], _∷_, _++_, map, map-append, append-nil}
 use Prim.Native.Nat.{ℕ, zero, suc, _+_, _*_, _≤_, _<_}
 use native.Mathlib.Omega.{arith}
 use lib.ListN.{length, take, drop, length-append, length-map, length-take, take-append-drop, drop-of-length-le}
-use Rattle.wire.specs.All.{All, none, more, all-append, all-head}
+use Rattle.wire.specs.All.{All, all-append, all-head}
 use Rattle.home.specs.Capacities.{cells}
-use Rattle.home.specs.Zones.{Block, Zone, empty, from, blocks, based}
+use Rattle.home.specs.Zones.{Block, Zone, from, blocks, based}
 use Rattle.home.specs.Perm.{Perm, Pairs, ptrans}
 use Rattle.home.specs.PermLaws.{pleft, pright, pfront, all-left, all-right}
 use Rattle.home.specs.Valid.{Other}
 use Rattle.home.specs.Layout.{Sits, Fit}
 use Rattle.home.specs.Bytes.{Spot, row, spots, entries, cellAt}
-use Rattle.home.specs.AreaLaws.{spots-sit}
+use Rattle.home.specs.AreaLaws.{spots-sit, row-sits}
+use Rattle.home.specs.DictionaryLaws.{row-blocks, spots-blocks}
 use Rattle.moves.specs.Moves.{Movable, moved}
-use Rattle.moves.specs.HomeLaws.{Loose, length-zones}
+use Rattle.moves.specs.HomeLaws.{length-zones}
 use Rattle.moves.specs.SpotLaws.{spot, spots-in, gone-before}
 use Rattle.moves.specs.LooseLaws.{fit-above, blocks-append}
-use Rattle.moves.specs.Stored.{endAfter}
+use Rattle.moves.specs.Stored.{endAfter, Loose}
 use Rattle.moves.specs.AtLaws.{take-here, drop-next, zone-here}
 use Rattle.moves.specs.Slide.{rebased}
 use Rattle.moves.specs.HeldLaws.{spotBlock, SitsAt, held, Kept, kept-perm, held-perm, held-long, held-movable, held-moved, lined-lower, lined-append, row-lined, spots-lined, below-lined, kept-lined}
-
--- ---- rows
-
-row-sits : (c p : ℕ) (xs : List Block) → All (Sits c) xs → All SitsAt (row c p xs)
-unfolding row
-row-sits c p [] h = none
-row-sits c p (x ∷ xs) (more s h) = more s (row-sits c (p + cells c) xs h)
-
-row-blocks : (c p : ℕ) (xs : List Block) → map spotBlock (row c p xs) ≡ xs
-unfolding row
-row-blocks c p [] = refl
-row-blocks c p (x ∷ xs) = ap (λ (l : List Block). x ∷ l) (row-blocks c (p + cells c) xs)
-
-spots-blocks : (c : ℕ) (zs : List Zone) → map spotBlock (spots c zs) ≡ blocks zs
-unfolding spots blocks
-spots-blocks c [] = refl
-spots-blocks c (empty ∷ zs) = spots-blocks (suc c) zs
-spots-blocks c (from f x xs ∷ zs) = map-append spotBlock (row c f (x ∷ xs)) (spots (suc c) zs) ∙ ap₂ (λ (l r : List Block). l ++ r) (row-blocks c f (x ∷ xs)) (spots-blocks (suc c) zs)
 
 -- ---- halfway
 

@@ -15,9 +15,10 @@ use Rattle.home.specs.DictionaryLaws.{Below}
 use Rattle.home.specs.HomeLaws.{length-padded}
 use Rattle.home.specs.Lookup.{Ordered, indexOf}
 use Rattle.home.specs.LookupLaws.{rising-at}
+use Rattle.home.specs.EntriesLaws.{Small, entries-back}
 use Rattle.moves.specs.Moves.{carried, Movable, celled, entered, unentered, zoned, moved}
 use Rattle.moves.specs.JoinLaws.{join, join-length, join-area, join-entry, join-zone, join-count, join-part, join-words, join-tags, join-bears, join-dictionary}
-use Rattle.moves.specs.EntryLaws.{Small, entries-back, rank, rank-entries, rank-at, word, length-word, padded-celled, padded-entered, padded-unentered}
+use Rattle.moves.specs.EntryLaws.{rank, rank-entries, rank-at, word, length-word, padded-celled, padded-entered, padded-unentered}
 
 -- ---- zone entries es, dictionary ds, area a
 

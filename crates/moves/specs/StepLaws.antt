@@ -5,17 +5,18 @@ use Prim.Native.Nat.{ℕ, suc, _+_, _*_, _-_, _≤_, _<_}
 use native.Mathlib.Omega.{arith}
 use lib.ListN.{length, replicate, length-append}
 use Rattle.wire.specs.Bytes.{over, bytes16}
-use Rattle.wire.specs.BytesLaws.{length-bytes16}
+use Rattle.wire.specs.BytesLaws.{length-bytes16, over-seam}
 use Rattle.home.specs.Capacities.{cells}
 use Rattle.home.specs.Zones.{Block, Zone, empty, from, zone, added, lifted, endOf, lastOf, initOf, turned}
 use Rattle.home.specs.Perm.{Perm, pskip, ptrans}
 use Rattle.home.specs.PermLaws.{prefl, pright, pfront}
 use Rattle.home.specs.Bytes.{Spot, row, spots, entries, encode, blockBytes, cellAt}
 use Rattle.home.specs.HomeLaws.{length-entries}
+use Rattle.home.specs.DictionaryLaws.{zone-spots}
 use Rattle.moves.specs.Moves.{zoned, moved, entered, unentered}
-use Rattle.moves.specs.JoinLaws.{over-seam}
 use Rattle.moves.specs.SpotLaws.{spot, spots-in, in-context, liftedTo, liftedFirst, lifted-spots, added-spots, length-init, lower-before, lower-after, gone-before, fill-before, fill-after}
-use Rattle.moves.specs.HomeLaws.{Loose, home-moved, home-added, home-gone, home-filled, home-rewritten}
+use Rattle.moves.specs.HomeLaws.{home-moved, home-added, home-gone, home-filled, home-rewritten}
+use Rattle.moves.specs.Stored.{Loose}
 
 -- ---- a zone's entry
 
@@ -122,11 +123,6 @@ module _ (R : ℕ) (small : R ≤ 1024) (ls : List Zone) where
 
   -- ---- a block b taken out of the zone from f, with the blocks pre before it
 
-  zone-spots : (f : ℕ) (bs : List Block) (hs : List Zone) → spots c (zone f bs ∷ hs) ≡ row c f bs ++ spots (suc c) hs
-  unfolding spots zone row
-  zone-spots f [] hs = refl
-  zone-spots f (x ∷ xs) hs = refl
-
   pub many-zone : (f : ℕ) (bs : List Block) → manyOf (zone f bs) ≡ length bs
   unfolding manyOf zone
   many-zone f [] = refl
@@ -141,7 +137,7 @@ module _ (R : ℕ) (small : R ≤ 1024) (ls : List Zone) where
   pub in-zone : (f : ℕ) (bs : List Block) (hs : List Zone) (s : Spot) (rs : List Spot) → Perm (row c f bs) (s ∷ rs) → Perm (spots 0 (ls ++ zone f bs ∷ hs)) (s ∷ (spots 0 ls ++ (rs ++ spots (suc c) hs)))
   in-zone f bs hs s rs p =
       in-context ls (zone f bs ∷ hs) s (rs ++ spots (suc c) hs)
-      (subst (λ (l : List Spot). Perm l (s ∷ (rs ++ spots (suc c) hs))) (sym (zone-spots f bs hs)) (pright (spots (suc c) hs) p))
+      (subst (λ (l : List Spot). Perm l (s ∷ (rs ++ spots (suc c) hs))) (sym (zone-spots c f bs hs)) (pright (spots (suc c) hs) p))
 
   -- it is the last one
   pub home-last-gone : (f : ℕ) (pre : List Block) (b : Block) (hs : List Zone) → Loose R (ls ++ zone f (pre ++ b ∷ []) ∷ hs) → Loose R (ls ++ zone f pre ∷ hs)
@@ -156,7 +152,7 @@ module _ (R : ℕ) (small : R ≤ 1024) (ls : List Zone) where
       s
       (subst (λ (l : List Spot). Perm (spots 0 (ls ++ zone f (pre ++ b ∷ []) ∷ hs)) (s ∷ l))
       (ap (λ (l : List Spot). spots 0 ls ++ (l ++ spots (suc c) hs)) (append-nil (row c f pre))
-      ∙ ap (λ (l : List Spot). spots 0 ls ++ l) (sym (zone-spots f pre hs)) ∙ sym (spots-in ls (zone f pre ∷ hs)))
+      ∙ ap (λ (l : List Spot). spots 0 ls ++ l) (sym (zone-spots c f pre hs)) ∙ sym (spots-in ls (zone f pre ∷ hs)))
       (in-zone f (pre ++ b ∷ []) hs s (row c f pre ++ row c (q + cells c) []) (gone-before c f pre b [])))
 
   -- the last of those behind it, and the others

@@ -1,3 +1,4 @@
 pub mod Grammar
+pub mod Commas
 pub mod ParseLaws
 pub mod Examples

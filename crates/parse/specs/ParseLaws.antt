@@ -10,21 +10,16 @@ use lib.Dec.{eqb, leb}
 use lib.ListN.{length, take, drop, getD, length-drop, drop-of-length-le}
 use lib.Seq.{drop-cons, drop-drop, take-all}
 use borrow.Author.Tests.{le-leb, lt-leb, eq-eqb, ne-eqb, leb-true}
-use Rattle.wire.specs.Bytes.{pick, part}
+use Rattle.wire.specs.Bytes.{part}
 use Rattle.wire.specs.Cases.{by-test, both, and-false}
 use Rattle.parse.specs.declared.Named.{Named}
 use Rattle.parse.specs.declared.Number.{Number}
 use Rattle.parse.specs.declared.Number.the-variants.{Value, NoNumber}
-use Rattle.parse.specs.declared.Parsed.{Parsed}
 use Rattle.parse.specs.declared.Parsed.the-variants.{Bad}
 use Rattle.parse.specs.Grammar.{onto, fields, wordOf, isDigit, digitsOnly, valueFrom, leads, numberOf, built, commandOf, parsed}
+use Rattle.parse.specs.Commas.{before, Below, atCommas}
 
 -- ---- commas
-
--- how many bytes stand before the first x
-unfoldable pub before : ℕ → List ℕ → ℕ
-before x [] = 0
-before x (y ∷ l) = pick (eqb y x) 0 (suc (before x l))
 
 -- one turn of the search
 pub before-here : (x : ℕ) (line : List ℕ) (i : ℕ) → i < length line → getD line i 0 ≡ x → before x (drop i line) ≡ 0
@@ -157,10 +152,6 @@ pub unled : (most : ℕ) (s : List ℕ) → leads s ≡ false → NoNumber ≡ n
 unfolding numberOf
 unled most s e = rw e
 
--- a number up to k
-abbrev pub Below : ℕ → Number → Type 0
-Below k n = (v : ℕ) → n ≡ Value v → v ≤ k
-
 value-of : ℕ → Number → ℕ
 value-of k (Value v) = v
 value-of k NoNumber = k
@@ -175,16 +166,6 @@ number-below most f v e =
     (λ h. let a : most ≡ v = ap (value-of most) (rw h at e) in omega arith)
 
 -- ---- the line
-
--- the command of a line with commas at these places
-unfoldable pub atCommas : List ℕ → ℕ → ℕ → ℕ → ℕ → ℕ → Parsed
-atCommas l a b c d e =
-    built (wordOf (part l 0 a))
-    (numberOf 4294967295 (part l (a + 1) (b - (a + 1))))
-    (numberOf 255 (part l (b + 1) (c - (b + 1))))
-    (numberOf 4294967295 (part l (c + 1) (d - (c + 1))))
-    (numberOf 65535 (part l (d + 1) (e - (d + 1))))
-    (numberOf 255 (part l (e + 1) (length l - (e + 1))))
 
 pub built-at : (line : List ℕ) (a b c d e : ℕ) (w : Named) (t l s p m : Number) → w ≡ wordOf (part line 0 (a - 0))
     → t ≡ numberOf 4294967295 (part line (a + 1) (b - (a + 1))) → l ≡ numberOf 255 (part line (b + 1) (c - (b + 1)))

@@ -5,7 +5,7 @@ ghost use Prim.Native.Nat.{_+_, _-_, _≤_, _<_};
 ghost use lib.ListN.{length, drop};
 ghost use Rattle.wire.specs.Bytes.{part};
 ghost use Rattle.parse.specs.Grammar.{leads, numberOf, wordOf, built, parsed};
-ghost use Rattle.parse.specs.ParseLaws.{before, Below, atCommas};
+ghost use Rattle.parse.specs.Commas.{before, Below, atCommas};
 
 // A command's word; `list` is Show.
 pub enum Word {

@@ -1,7 +1,7 @@
 -- Numbers printed, worked out by hand.
 use mathlib.Core.Path.{_≡_, refl}
 use mathlib.Core.Bool.{Bool, true, _&&_}
-use mathlib.Core.List.{List, [], _∷_}
+use mathlib.Core.List.{[], _∷_}
 use Rattle.wire.specs.Bytes.{equal}
 use Rattle.print.specs.Print.{digitsBy, digits}
 

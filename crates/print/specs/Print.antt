@@ -40,3 +40,15 @@ noLine n = 110 ∷ 111 ∷ 44 ∷ (digits n ++ (10 ∷ []))
 
 unfoldable pub badLine : List ℕ
 badLine = 98 ∷ 97 ∷ 100 ∷ 10 ∷ []
+
+-- ---- parts of lines, as they are printed
+
+-- a number and the byte that ends it
+unfoldable pub field : ℕ → ℕ → List ℕ
+unfolding digitsBy
+field v e = digits v ++ (e ∷ [])
+
+-- a list's line of tag and count
+unfoldable pub headLine : ℕ → ℕ → List ℕ
+unfolding field
+headLine t n = 108 ∷ 105 ∷ 115 ∷ 116 ∷ 44 ∷ (field t 44 ++ field n 10)

@@ -9,6 +9,7 @@ use Rattle.wire.specs.Bytes.{over}
 use Rattle.wire.specs.Cases.{by-lt}
 use Rattle.wire.specs.BytesLaws.{over-nil, over-cons, over-snoc, over-append, length-over}
 use Rattle.print.specs.Print.{digitsBy, digits, recordLine, recordLines, listLines, okLine, noLine, badLine}
+use Rattle.print.specs.Print.{field, headLine}
 use Rattle.records.specs.declared.Record.{Record}
 use Rattle.records.specs.Records.{recordAt, decode, rest}
 use Rattle.records.specs.Cells.{length-records, rest-more, rest-end, rest-all}
@@ -91,11 +92,6 @@ wrote-then a b c at xs ys r e v w = (w .0 ∙ rw (v .0, v .1) (over-append a at 
 
 -- ---- fields
 
--- a number and the byte that ends it
-unfoldable pub field : ℕ → ℕ → List ℕ
-unfolding digitsBy
-field v e = digits v ++ (e ∷ [])
-
 pub field-long : (v e : ℕ) → length (field v e) ≡ length (digits v) + 1
 unfolding field
 field-long v e = rw length-append
@@ -161,11 +157,6 @@ unfolding noLine field
 wrote-no l m k n e p w =
     let t = wrote-then l m k 0 (110 ∷ 111 ∷ 44 ∷ []) (field n 10) 3 e (wrote-start l m (110 ∷ 111 ∷ 44 ∷ []) p) w in
     (t .0, omega (arith, t .1))
-
--- a list's line of tag and count
-unfoldable pub headLine : ℕ → ℕ → List ℕ
-unfolding field
-headLine t n = 108 ∷ 105 ∷ 115 ∷ 116 ∷ 44 ∷ (field t 44 ++ field n 10)
 
 pub head-long : (t n : ℕ) → t < 4294967296 → n < 1000 → length (headLine t n) ≤ 20
 unfolding headLine

@@ -5,8 +5,7 @@ ghost use Prim.Native.Nat.{_+_, _/_, _≤_};
 ghost use lib.ListN.{length};
 ghost use Rattle.wire.specs.Bytes.{over};
 ghost use Rattle.records.specs.Records.{decode};
-ghost use Rattle.print.specs.Print.{digits, recordLine, listLines, okLine, noLine, badLine};
-ghost use Rattle.print.specs.PrintLaws.{field, headLine};
+ghost use Rattle.print.specs.Print.{digits, recordLine, listLines, okLine, noLine, badLine, field, headLine};
 
 // Prints a number: its last digit behind those before it.
 fn put_number(out: &mut [u8], at: usize, v: u32) -> usize

@@ -1,38 +1,23 @@
 -- Both, either and first-without-second of two lists.
 use Prim.Native.Nat.{ℕ, _*_}
-use mathlib.Core.List.{List}
+use mathlib.Core.List.{List, [], _∷_}
 use lib.ListN.{length}
-use lib.Dec.{leb}
-use Rattle.wire.specs.Bytes.{pick, over}
+use lib.Dec.{ltb}
+use Rattle.wire.specs.Bytes.{over}
+use Rattle.wire.specs.Rules.{rule, Ruled, behind}
 use Rattle.records.specs.declared.Record.{Record}
 use Rattle.records.specs.declared.Merge.{Merge}
 use Rattle.records.specs.Records.{merge, encode}
-use Rattle.redo.specs.Image.{home}
-use Rattle.home.specs.Sound.{listOf}
-use Rattle.edits.specs.declared.Answer.{Answer}
-use Rattle.edits.specs.declared.Answer.the-variants.{Count, Refused}
-use Rattle.gates.specs.Gates.{imageGate, spaceGate, gatedAnswer, gatedBytes}
+use Rattle.home.specs.declared.Answer.{Answer}
+use Rattle.home.specs.declared.Answer.the-variants.{Count}
+use Rattle.gates.specs.declared.Of.{Of}
+use Rattle.gates.specs.Gates.{gateRules}
+use Rattle.reads.specs.Reads.{listIn}
 
 -- "15: output shorter than the records to write"; "Answer: the number of records. Bytes beyond them stay."
-unfoldable pub fitted : List Record → List ℕ → Answer
-fitted rs out = pick (leb (8 * length rs) (length out)) (Count (length rs)) (Refused 15)
+abbrev pub written : List Record → List ℕ → Ruled Answer
+written rs out = record { rules = rule 15 (ltb (length out) (8 * length rs)) ∷ []; answer = Count (length rs); bytes = over out 0 (encode rs) }
 
-unfoldable pub filled : List Record → List ℕ → List ℕ
-filled rs out = pick (leb (8 * length rs) (length out)) (over out 0 (encode rs)) out
-
--- the records of home bytes h that are written
-unfoldable pub mergedOf : Merge → List ℕ → ℕ → ℕ → List Record
-mergedOf m h t u = merge m (listOf h t) (listOf h u)
-
--- of an image, and of a workspace
-unfoldable pub mergeImage : Merge → List ℕ → ℕ → ℕ → List ℕ → Answer
-mergeImage m l t u out = gatedAnswer (imageGate l) (fitted (mergedOf m (home l) t u) out)
-
-unfoldable pub outImage : Merge → List ℕ → ℕ → ℕ → List ℕ → List ℕ
-outImage m l t u out = gatedBytes (imageGate l) (filled (mergedOf m (home l) t u) out) out
-
-unfoldable pub mergeSpace : Merge → List ℕ → ℕ → ℕ → List ℕ → Answer
-mergeSpace m w t u out = gatedAnswer (spaceGate w) (fitted (mergedOf m w t u) out)
-
-unfoldable pub outSpace : Merge → List ℕ → ℕ → ℕ → List ℕ → List ℕ
-outSpace m w t u out = gatedBytes (spaceGate w) (filled (mergedOf m w t u) out) out
+-- of two tags' lists in what is lent
+unfoldable pub mergeIn : Merge → Of → List ℕ → ℕ → ℕ → List ℕ → Ruled Answer
+mergeIn m of bs t u out = behind (gateRules of bs) (written (merge m (listIn of bs t) (listIn of bs u)) out)

@@ -1,35 +1,29 @@
--- The reads of one list.
-use Prim.Native.Nat.{ℕ}
+-- The reads of one list, of an image or of a workspace.
+use Prim.Native.Nat.{ℕ, _+_}
 use mathlib.Core.List.{List, []}
 use lib.ListN.{length}
+use Rattle.wire.specs.Rules.{first}
+use Rattle.records.specs.declared.Record.{Record}
 use Rattle.records.specs.Records.{encode}
-use Rattle.redo.specs.Image.{home}
+use Rattle.home.specs.declared.Answer.{Answer}
+use Rattle.home.specs.declared.Answer.the-variants.{Count, Refused}
+use Rattle.home.specs.Lookup.{offsetOf}
 use Rattle.home.specs.Sound.{listOf}
-use Rattle.gates.specs.declared.Gate.{Gate}
-use Rattle.gates.specs.declared.Gate.the-variants.{Open, Shut}
-use Rattle.edits.specs.declared.Answer.{Answer}
-use Rattle.edits.specs.declared.Answer.the-variants.{Count, Refused}
-use Rattle.gates.specs.Gates.{imageGate, spaceGate}
+use Rattle.gates.specs.declared.Of.{Of}
+use Rattle.gates.specs.Gates.{gateRules, homeIn, homeFrom}
 
--- a number of records, or the refusal's number
-unfoldable pub counted : Gate → ℕ → Answer
-counted Open n = Count n
-counted (Shut r) n = Refused r
+-- a tag's list in what is lent
+abbrev pub listIn : Of → List ℕ → ℕ → List Record
+listIn of bs t = listOf (homeIn of bs) t
 
--- the bytes shown: "empty for an unknown tag and on refusal"
-unfoldable pub shown : Gate → List ℕ → List ℕ
-shown Open bs = bs
-shown (Shut r) bs = []
+-- "Count a list (an unknown tag has 0)"
+unfoldable pub countIn : Of → List ℕ → ℕ → Answer
+countIn of bs t = first Refused (gateRules of bs) (Count (length (listIn of bs t)))
 
--- "Count a list (an unknown tag has 0), and show it .. Every read .. takes an image or a workspace"
-unfoldable pub countImage : List ℕ → ℕ → Answer
-countImage l t = counted (imageGate l) (length (listOf (home l) t))
+-- "and show it: the part of the lent bytes that holds its records, empty for an unknown tag and on refusal"
+unfoldable pub showIn : Of → List ℕ → ℕ → List ℕ
+showIn of bs t = first (λ n. []) (gateRules of bs) (encode (listIn of bs t))
 
-unfoldable pub countSpace : List ℕ → ℕ → Answer
-countSpace w t = counted (spaceGate w) (length (listOf w t))
-
-unfoldable pub showImage : List ℕ → ℕ → List ℕ
-showImage l t = shown (imageGate l) (encode (listOf (home l) t))
-
-unfoldable pub showSpace : List ℕ → ℕ → List ℕ
-showSpace w t = shown (spaceGate w) (encode (listOf w t))
+-- where that part begins; 0 for an empty one
+unfoldable pub showFrom : Of → List ℕ → ℕ → ℕ
+showFrom of bs t = first (λ n. 0) (gateRules of bs) (homeFrom of bs + offsetOf (homeIn of bs) t)

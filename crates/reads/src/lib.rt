@@ -1,56 +1,40 @@
-// The reads of an image and of a workspace: count, show and the merges.
-use edits::Answer;
-use gates::Gate;
+// The reads of an image or of a workspace: count, show and the merges.
+use gates::Access;
+use gates::Of;
+use home::Answer;
 use records::Merge;
 ghost use mathlib.Core.Path.{_≡_};
+ghost use Prim.Native.Nat.{_+_};
+ghost use Rattle.wire.specs.Rules.{answered, left};
 ghost use Rattle.records.specs.Records.{merge as merged, decode};
-ghost use Rattle.reads.specs.Reads.{countImage, countSpace, showImage, showSpace};
-ghost use Rattle.reads.specs.Merges.{fitted, filled, mergeImage, outImage, mergeSpace, outSpace};
+ghost use Rattle.reads.specs.Reads.{countIn, showIn, showFrom};
+ghost use Rattle.reads.specs.Merges.{written, mergeIn};
 
-// Counts a tag's list in an image.
-pub fn count_image(image: &[u8], tag: u32) -> Answer
-    ensures { λ r. ⌜ r ≡ countImage (now (image .entry)) tag ⌝ }
+// Counts a tag's list.
+pub fn count(of: Of, bytes: &[u8], tag: u32) -> Answer
+    ensures { λ r. ⌜ r ≡ countIn of (now (bytes .entry)) tag ⌝ }
 {
-    match gates::image_gate(image) {
-        Gate::Open => Answer::Count(home::lookup::count(log::home(image), tag)),
-        Gate::Shut(r) => Answer::Refused(r),
+    match gates::gate(of, bytes) {
+        Access::Open => Answer::Count(home::lookup::count(gates::home(of, bytes), tag)),
+        Access::Refused(r) => Answer::Refused(r),
     }
 }
 
-// Counts a tag's list in a workspace.
-pub fn count_space(space: &[u8], tag: u32) -> Answer
-    ensures { λ r. ⌜ r ≡ countSpace (now (space .entry)) tag ⌝ }
+// The part of the lent bytes that holds a tag's records.
+pub fn show(of: Of, bytes: &[u8], tag: u32) -> &[u8]
+    ensures { λ r. ⌜ now r ≡ showIn of (now (bytes .entry)) tag ⌝ }
+    ensures { λ r. ⌜ (r .ptr .0 ≡ bytes .entry .ptr .0) × (r .ptr .1 ≡ bytes .entry .ptr .1 + showFrom of (now (bytes .entry)) tag) ⌝ }
 {
-    match gates::space_gate(space) {
-        Gate::Open => Answer::Count(home::lookup::count(space, tag)),
-        Gate::Shut(r) => Answer::Refused(r),
-    }
-}
-
-// The part of an image that holds a tag's records.
-pub fn show_image(image: &[u8], tag: u32) -> &[u8]
-    ensures { λ r. ⌜ now r ≡ showImage (now (image .entry)) tag ⌝ }
-{
-    match gates::image_gate(image) {
-        Gate::Open => home::lookup::list(log::home(image), tag),
-        Gate::Shut(_) => &image[0..0],
-    }
-}
-
-// The part of a workspace that holds a tag's records.
-pub fn show_space(space: &[u8], tag: u32) -> &[u8]
-    ensures { λ r. ⌜ now r ≡ showSpace (now (space .entry)) tag ⌝ }
-{
-    match gates::space_gate(space) {
-        Gate::Open => home::lookup::list(space, tag),
-        Gate::Shut(_) => &space[0..0],
+    match gates::gate(of, bytes) {
+        Access::Open => home::lookup::list(gates::home(of, bytes), tag),
+        Access::Refused(_) => &bytes[0..0],
     }
 }
 
 // A merge of two lists to an output, if it has room for it.
 fn merge_lists(m: Merge, xs: &[u8], ys: &[u8], out: &mut [u8]) -> Answer
-    ensures { λ r. ⌜ r ≡ fitted (merged m (decode (now (xs .entry))) (decode (now (ys .entry)))) (now (out .entry)) ⌝ }
-    ensures { λ _. ⌜ now (out .exit) ≡ filled (merged m (decode (now (xs .entry))) (decode (now (ys .entry)))) (now (out .entry)) ⌝ }
+    ensures { λ r. ⌜ r ≡ answered Answer.Refused (written (merged m (decode (now (xs .entry))) (decode (now (ys .entry)))) (now (out .entry))) ⌝ }
+    ensures { λ _. ⌜ now (out .exit) ≡ left (written (merged m (decode (now (xs .entry))) (decode (now (ys .entry)))) (now (out .entry))) (now (out .entry)) ⌝ }
 {
     let k = merges::merge_count(m, xs, ys);
     if out.len() / 8 < k {
@@ -59,33 +43,18 @@ fn merge_lists(m: Merge, xs: &[u8], ys: &[u8], out: &mut [u8]) -> Answer
     Answer::Count(merges::merge_into(m, xs, ys, out))
 }
 
-// Writes both, either or first-without-second of two tags' lists in an image to an output.
-pub fn merge_image(image: &[u8], m: Merge, first: u32, second: u32, out: &mut [u8]) -> Answer
-    ensures { λ r. ⌜ r ≡ mergeImage m (now (image .entry)) first second (now (out .entry)) ⌝ }
-    ensures { λ _. ⌜ now (out .exit) ≡ outImage m (now (image .entry)) first second (now (out .entry)) ⌝ }
+// Writes both, either or first-without-second of two tags' lists to an output.
+pub fn merge(of: Of, bytes: &[u8], m: Merge, first: u32, second: u32, out: &mut [u8]) -> Answer
+    ensures { λ r. ⌜ r ≡ answered Answer.Refused (mergeIn m of (now (bytes .entry)) first second (now (out .entry))) ⌝ }
+    ensures { λ _. ⌜ now (out .exit) ≡ left (mergeIn m of (now (bytes .entry)) first second (now (out .entry))) (now (out .entry)) ⌝ }
 {
-    match gates::image_gate(image) {
-        Gate::Open => {
-            let home = log::home(image);
+    match gates::gate(of, bytes) {
+        Access::Open => {
+            let home = gates::home(of, bytes);
             let xs = home::lookup::list(home, first);
             let ys = home::lookup::list(home, second);
             merge_lists(m, xs, ys, out)
         }
-        Gate::Shut(r) => Answer::Refused(r),
-    }
-}
-
-// The same of two lists in a workspace.
-pub fn merge_space(space: &[u8], m: Merge, first: u32, second: u32, out: &mut [u8]) -> Answer
-    ensures { λ r. ⌜ r ≡ mergeSpace m (now (space .entry)) first second (now (out .entry)) ⌝ }
-    ensures { λ _. ⌜ now (out .exit) ≡ outSpace m (now (space .entry)) first second (now (out .entry)) ⌝ }
-{
-    match gates::space_gate(space) {
-        Gate::Open => {
-            let xs = home::lookup::list(space, first);
-            let ys = home::lookup::list(space, second);
-            merge_lists(m, xs, ys, out)
-        }
-        Gate::Shut(r) => Answer::Refused(r),
+        Access::Refused(r) => Answer::Refused(r),
     }
 }

@@ -7,7 +7,7 @@ use native.Mathlib.Omega.{arith}
 use lib.ListN.{length, take, drop, set, getD, replicate, length-append, length-set, take-append-drop, List·getD-append}
 use lib.Seq.{getD-append-add, getD-set-same, getD-set-other, set-split, take-all, ext-getD}
 use Rattle.wire.specs.Bytes.{part, over, get16, get32, bytes16, bytes32, Bytes}
-use Rattle.wire.specs.BytesLaws.{length-over, over-low, over-in, over-high, length-part, part-at, get16-over, get32-over, part-over, part-add}
+use Rattle.wire.specs.BytesLaws.{length-over, over-low, over-in, over-high, length-part, part-at, get16-over, get32-over, part-over, part-add, digits16, digits32}
 use Rattle.records.specs.declared.Record.{Record}
 use Rattle.records.specs.Records.{Fits, key, rising, look, held, rank, insert, remove, lasting, amend, bytesOf, encode, recordAt, records, decode, up, down, inserted, removed, amended}
 use Rattle.records.specs.Order.{insert-at, remove-at, amend-at, rank-length}
@@ -40,23 +40,6 @@ record-fits l at b = record {
   phone = omega (arith, b (at + 5), b (at + 5 + 1));
   minutes = b (at + 7);
 }
-
-digits32 : (a b c d : ℕ) → a < 256 → b < 256 → c < 256 → d < 256 → bytes32 (a * 16777216 + b * 65536 + c * 256 + d) ≡ a ∷ b ∷ c ∷ d ∷ []
-unfolding bytes32
-digits32 a b c d ha hb hc hd =
-    let v : ℕ = a * 16777216 + b * 65536 + c * 256 + d in
-    let e : v / 16777216 % 256 ≡ a = omega arith in
-    let f : v / 65536 % 256 ≡ b = omega arith in
-    let g : v / 256 % 256 ≡ c = omega arith in
-    let h : v % 256 ≡ d = omega arith in
-    rw (e, f, g, h)
-
-digits16 : (a b : ℕ) → a < 256 → b < 256 → bytes16 (a * 256 + b) ≡ a ∷ b ∷ []
-unfolding bytes16
-digits16 a b ha hb =
-    let e : (a * 256 + b) / 256 % 256 ≡ a = omega arith in
-    let f : (a * 256 + b) % 256 ≡ b = omega arith in
-    rw (e, f)
 
 -- a record's bytes are those it was read from
 bytes-at : (l : List ℕ) (at : ℕ) → Bytes l

@@ -3,7 +3,7 @@ pub mod Examples
 pub mod Order
 pub mod Merging
 pub mod Cells
-pub mod Turns
+pub mod LoopLaws
 pub mod Moves
 pub mod Edits
 pub mod Whole

@@ -9,15 +9,12 @@ use lib.ListN.{length, take, drop, set, getD}
 use lib.Dec.{ltb, leb, eqb}
 use borrow.Author.Tests.{ltb-true, lt-ltb, le-ltb, le-leb, leb-true, eq-eqb, ne-eqb}
 use Rattle.wire.specs.Bytes.{pick}
-use Rattle.wire.specs.Cases.{by-test, by-lt, by-eq, both, never, bool-iff}
+use Rattle.wire.specs.Cases.{by-test, by-lt, by-eq, both, never, bool-iff, ltb-iff}
 use Rattle.records.specs.declared.Record.{Record}
 use Rattle.records.specs.declared.Place.the-variants.{Found, Absent}
 use Rattle.records.specs.Records.{Fits, key, before, risingFrom, rising, look, held, rank, place, below, tally, insert, remove, lasting, amend}
 
 -- ---- the order is that of the keys
-
-same-test : (a b c d : ℕ) → (a < b → c < d) → (c < d → a < b) → ltb a b ≡ ltb c d
-same-test a b c d f g = bool-iff (ltb a b) (ltb c d) (λ e. lt-ltb c d (f (ltb-true a b e))) (λ e. lt-ltb a b (g (ltb-true c d e)))
 
 pub before-key : (r s : Record) → Fits r → Fits s → before r s ≡ ltb (key r) (key s)
 unfolding before key
@@ -25,9 +22,9 @@ before-key r s f g =
     by-eq (r .level) (s .level)
     (λ e. rw (eq-eqb (r .level) (s .level) e)
     (by-eq (r .second) (s .second)
-    (λ d. rw (eq-eqb (r .second) (s .second) d) (same-test (r .phone) (s .phone) (key r) (key s) (λ h. omega arith) (λ h. omega arith)))
-    (λ d. rw (ne-eqb (r .second) (s .second) d) (same-test (r .second) (s .second) (key r) (key s) (λ h. omega arith) (λ h. by-lt (r .second) (s .second) (λ q. q) (λ q. absurd (d (omega arith))))))))
-    (λ e. rw (ne-eqb (r .level) (s .level) e) (same-test (r .level) (s .level) (key r) (key s) (λ h. omega arith) (λ h. by-lt (r .level) (s .level) (λ q. q) (λ q. absurd (e (omega arith))))))
+    (λ d. rw (eq-eqb (r .second) (s .second) d) (ltb-iff (r .phone) (s .phone) (key r) (key s) (λ h. omega arith) (λ h. omega arith)))
+    (λ d. rw (ne-eqb (r .second) (s .second) d) (ltb-iff (r .second) (s .second) (key r) (key s) (λ h. omega arith) (λ h. by-lt (r .second) (s .second) (λ q. q) (λ q. absurd (d (omega arith))))))))
+    (λ e. rw (ne-eqb (r .level) (s .level) e) (ltb-iff (r .level) (s .level) (key r) (key s) (λ h. omega arith) (λ h. by-lt (r .level) (s .level) (λ q. q) (λ q. absurd (e (omega arith))))))
 
 -- the same key is the same primary part
 pub key-one : (r s : Record) → Fits r → Fits s → key r ≡ key s → (r .level ≡ s .level) × (r .second ≡ s .second) × (r .phone ≡ s .phone)
@@ -135,13 +132,6 @@ look-low k low [] g e = look-nil k
 look-low k low (x ∷ xs) g e =
     let a = rising-parts low x xs e in
     look-past k x xs (λ d. absurd (omega arith)) ∙ look-low k (key x + 1) xs (omega arith) (a .1)
-
-pub look-key : (k : ℕ) (r : Record) (xs : List Record) → look k xs ≡ some r → key r ≡ k
-look-key k r [] e = let z : _≡_ {A = ℕ} 0 1 = cc (look-nil k) in absurd (omega arith)
-look-key k r (x ∷ xs) e =
-    by-eq (key x) k
-    (λ d. let q : x ≡ r = cc (look-here k x xs d) in rw (← q) d)
-    (λ d. look-key k r xs (sym (look-past k x xs d) ∙ e))
 
 -- looked up or in the list: the same
 pub look-in : (k : ℕ) (r : Record) (xs : List Record) → look k xs ≡ some r → List·Memᴰ r xs

@@ -5,7 +5,7 @@ use mathlib.Core.Option.{Option, none, some}
 use mathlib.Core.List.{List, [], _∷_, _++_}
 use lib.ListN.{length, set, getD, replicate}
 use lib.Dec.{ltb, leb, eqb}
-use Rattle.wire.specs.Bytes.{pick, part, over, get16, get32, bytes16, bytes32}
+use Rattle.wire.specs.Bytes.{pick, part, over, get16, get32, bytes16, bytes32, isSome}
 use Rattle.records.specs.declared.Record.{Record}
 use Rattle.records.specs.declared.Place.{Place}
 use Rattle.records.specs.declared.Place.the-variants.{Found, Absent}
@@ -55,8 +55,7 @@ look k [] = none
 look k (x ∷ xs) = pick (eqb (key x) k) (some x) (look k xs)
 
 abbrev pub held : Option Record → Bool
-held none = false
-held (some x) = true
+held o = isSome o
 
 -- how many records stand before a key: those at a rising list's front
 unfoldable pub rank : ℕ → List Record → ℕ

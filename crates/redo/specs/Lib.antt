@@ -8,5 +8,5 @@ pub mod EntryLaws
 pub mod Stores
 pub mod StoresLaws
 pub mod Stage
-pub mod Turns
+pub mod LoopLaws
 pub mod Stages

@@ -22,9 +22,8 @@ use Rattle.home.specs.Sound.{pagesOf}
 use Rattle.home.specs.AreaLaws.{fit-le}
 use Rattle.moves.specs.Moves.{Movable, zoned, moved}
 use Rattle.moves.specs.SpotLaws.{spot, in-context, liftedTo, liftedFirst}
-use Rattle.moves.specs.HomeLaws.{Loose}
 use Rattle.moves.specs.StepLaws.{firstOf, manyOf, class-below, home-lifted}
-use Rattle.moves.specs.Stored.{Stored, endAfter}
+use Rattle.moves.specs.Stored.{Stored, endAfter, Loose}
 use Rattle.moves.specs.LooseLaws.{movable, zone-at, zone-is, length-loose, fit-lower, fit-above, loose-joined, Shifted, shift-fit}
 use Rattle.moves.specs.AtLaws.{zone-here, joined, long-next, end-next, end-of}
 use Rattle.seats.specs.Seat.{cellFor, firstWith, endFrom, displaced, raised, Stacked}

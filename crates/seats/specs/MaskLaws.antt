@@ -8,17 +8,15 @@ use native.Mathlib.Omega.{arith}
 use lib.Dec.{leb}
 use lib.ListN.{length, replicate}
 use Rattle.wire.specs.Bytes.{part, over, get16, get32, bytes16}
-use Rattle.wire.specs.BytesLaws.{length-over}
+use Rattle.wire.specs.BytesLaws.{length-over, over-comm, part-else, get16-else, get32-else}
 use Rattle.wire.specs.Cases.{by-test, by-eq, by-lt}
 use Rattle.home.specs.Capacities.{cells}
 use Rattle.home.specs.Cases.{map-swap}
 use Rattle.home.specs.Bytes.{cellAt, entryAt, firstAt, manyAt, endAt}
-use Rattle.home.specs.BytesLaws.{part-else}
 use Rattle.home.specs.Lookup.{rankAt, indexOf}
 use Rattle.moves.specs.Moves.{wordAt, Movable, carried, celled, moved, zoned}
-use Rattle.moves.specs.AreaLaws.{over-comm}
 use Rattle.seats.specs.Seat.{firstWith, endFrom, displaced, raised, Stacked}
-use Rattle.seats.specs.UntouchedLaws.{Untouched, untouched-movable, get16-else, get32-else, rank-same}
+use Rattle.seats.specs.UntouchedLaws.{Untouched, untouched-movable, rank-same}
 use Rattle.seats.specs.StackLaws.{raised-skip, raised-stays, lift, raised-lifts}
 
 -- home's bytes with these in the entries below c

@@ -9,9 +9,10 @@ use native.Mathlib.Omega.{arith}
 use native.Mathlib.Numerals.{add-one}
 use lib.Dec.{leb}
 use lib.ListN.{length}
+use Rattle.wire.specs.Bytes.{isSome}
 use Rattle.home.specs.Capacities.{cells}
 use Rattle.home.specs.CapacitiesLaws.{cells-mono, cells-pos, cells-rise}
-use Rattle.home.specs.Cases.{by-pick, Holds, isSome}
+use Rattle.home.specs.Cases.{by-pick, Holds}
 use Rattle.home.specs.Bytes.{cellAt, firstAt, manyAt, endAt}
 use Rattle.home.specs.EndLaws.{end-some}
 use Rattle.moves.specs.Moves.{Movable, moved, zoned}
@@ -81,7 +82,7 @@ module _ (h : List ℕ) (c f n e k p d : ℕ) (s : Seating h c f n e k p d) wher
 
   -- no zone is in the way, up to the end of the bytes
   pub seat-last : d ≡ 30 → (r : Room) → r ≡ roomOf (leb (1664 + 8 * (p + k)) (length h)) p → Answers h c f n e r h
-  unfolding raised isSome
+  unfolding raised
   seat-last q r a =
       let z : 30 - d ≡ 0 = omega arith in
       by-pick (λ (o : Option (List ℕ)). seated h c f n e ≡ o → Answers h c f n e r h) (leb (cellAt (p + k)) (length h))
@@ -99,7 +100,7 @@ module _ (h : List ℕ) (c f n e k p d : ℕ) (s : Seating h c f n e k p d) wher
     seated-on = seated-is ∙ ap (λ (j : ℕ). raised j h d (p + k)) fuel
 
     pub seat-before : (g : ℕ) → g ≡ firstAt h d → p + k ≤ g → Answers h c f n e (At p) h
-    unfolding roomOf isSome
+    unfolding roomOf
     seat-before g a b = answers (some h) (At p) h (seated-on ∙ raised-stays h d (p + k) (29 - d) (next .some q) (subst (λ (x : ℕ). p + k ≤ x) a b)) refl refl
 
 -- zone d's first block at cell g is in the way; it has m others, from cell `rest` on
@@ -176,7 +177,7 @@ module _ (h : List ℕ) (c f n e k p d g rest m : ℕ) (w : InWay h c f n e k p 
     bytes-are = t .bytes ∙ ap (λ (x : Option (List ℕ)). Option·getD x h) again-is
 
     pub seat-none : r ≡ Nowhere → Answers h c f n e Nowhere h'
-    unfolding roomOf isSome
+    unfolding roomOf
     seat-none z = by o (sym z ∙ room-is) bytes-are lifts
       where
         by : (x : Option (List ℕ)) → Nowhere ≡ roomOf (isSome x) to → h' ≡ Option·getD x h → seated h c f n e ≡ Option·map (λ (y : List ℕ). displaced y d g m to) x → Answers h c f n e Nowhere h'
@@ -184,7 +185,7 @@ module _ (h : List ℕ) (c f n e k p d g rest m : ℕ) (w : InWay h c f n e k p 
         by (some x) a b y = clash to (sym a)
 
     pub seat-moves : (q : ℕ) → r ≡ At q → Displaces h h' c f n e p d g m q
-    unfolding roomOf isSome
+    unfolding roomOf
     seat-moves q z = by o (sym z ∙ room-is) bytes-are lifts left new
       where
         by : (x : Option (List ℕ)) → At q ≡ roomOf (isSome x) to → h' ≡ Option·getD x h → seated h c f n e ≡ Option·map (λ (y : List ℕ). displaced y d g m to) x

@@ -4,39 +4,15 @@ use mathlib.Core.Logic.{inl, inr}
 use mathlib.Core.List.{List, _++_}
 use Prim.Native.Nat.{ℕ, zero, suc, _+_, _*_, _-_, _≤_, _<_}
 use native.Mathlib.Omega.{arith}
-use lib.ListN.{length, getD, replicate, length-append}
+use lib.ListN.{length, replicate, length-append}
 use Rattle.wire.specs.Bytes.{part, over, get16, get32, bytes16}
-use Rattle.wire.specs.BytesLaws.{length-over, over-low, over-high, length-bytes16}
+use Rattle.wire.specs.BytesLaws.{length-over, length-bytes16, get16-else, get32-else}
 use Rattle.wire.specs.Cases.{by-lt}
 use Rattle.home.specs.Capacities.{cells}
 use Rattle.home.specs.Bytes.{cellAt, entryAt, tagAt}
-use Rattle.home.specs.BytesLaws.{Clear}
 use Rattle.home.specs.Lookup.{Ordered, rankAt, indexOf}
 use Rattle.moves.specs.Moves.{wordAt, Movable, carried, celled, moved, zoned}
 use Rattle.seats.specs.Seat.{firstWith, displaced}
-
--- ---- numbers that are not written
-
-byte-else : (l : List ℕ) (i : ℕ) (v : List ℕ) (k : ℕ) → Clear i (length v) k 1 → getD (over l i v) k 0 ≡ getD l k 0
-byte-else l i v k (inl g) = over-high l i v k g
-byte-else l i v k (inr g) = over-low l i v k (omega arith)
-
--- within bytes that are not written
-part-clear : (i n j m k l : ℕ) → Clear i n j m → j ≤ k → k + l ≤ j + m → Clear i n k l
-part-clear i n j m k l (inl g) a b = inl (omega arith)
-part-clear i n j m k l (inr g) a b = inr (omega arith)
-
-pub get16-else : (l : List ℕ) (i : ℕ) (v : List ℕ) (j : ℕ) → Clear i (length v) j 2 → get16 (over l i v) j ≡ get16 l j
-unfolding get16
-get16-else l i v j g =
-    let at : (k : ℕ) → j ≤ k → k < j + 2 → getD (over l i v) k 0 ≡ getD l k 0 = λ k a b. byte-else l i v k (part-clear i (length v) j 2 k 1 g a (omega arith)) in
-    rw (at j (omega arith) (omega arith), at (j + 1) (omega arith) (omega arith))
-
-pub get32-else : (l : List ℕ) (i : ℕ) (v : List ℕ) (j : ℕ) → Clear i (length v) j 4 → get32 (over l i v) j ≡ get32 l j
-unfolding get32
-get32-else l i v j g =
-    let at : (k : ℕ) → j ≤ k → k < j + 4 → getD (over l i v) k 0 ≡ getD l k 0 = λ k a b. byte-else l i v k (part-clear i (length v) j 4 k 1 g a (omega arith)) in
-    rw (at j (omega arith) (omega arith), at (j + 1) (omega arith) (omega arith), at (j + 2) (omega arith) (omega arith), at (j + 3) (omega arith) (omega arith))
 
 pub rank-same : (h h' : List ℕ) (t i n : ℕ) → ((j : ℕ) → j < i + n → tagAt h' j ≡ tagAt h j) → rankAt h' t i n ≡ rankAt h t i n
 unfolding rankAt

@@ -10,7 +10,7 @@ ghost use mathlib.Core.Option.{Option·getD};
 ghost use Prim.Native.Nat.{_+_, _*_, _-_, _≤_, _<_};
 ghost use lib.ListN.{length};
 ghost use Rattle.home.specs.Capacities.{cells as sizeOf};
-ghost use Rattle.home.specs.Cases.{isSome};
+ghost use Rattle.wire.specs.Bytes.{isSome};
 ghost use Rattle.seats.specs.Seat.{cellFor, firstWith, endFrom, nextZone, roomOf, Seatable, seated};
 
 // The room for a block: its cell.

@@ -15,7 +15,7 @@ use Rattle.lines.specs.Answer.{lineText}
 use Rattle.stream.specs.declared.Fed.{Fed}
 use Rattle.stream.specs.Stream.{Open, state, linesOf, answered, reply, after, said, ending, ended}
 use Rattle.stream.specs.StreamLaws.{after-append, said-append}
-use Rattle.stream.specs.Turns.{parts}
+use Rattle.stream.specs.LoopLaws.{parts}
 use Rattle.stream.specs.Feeds.{Feeds}
 use Rattle.stream.specs.Whole.{input-answered, input-left}
 use Rattle.serve.specs.declared.Served.{Served}

@@ -43,10 +43,15 @@ unfoldable pub manyIn : List ℕ → ℕ → ℕ → ℕ
 manyIn h c zero = 0
 manyIn h c (suc n) = manyAt h c + manyIn h (suc c) n
 
--- is p the first cell of a block of these zones
+-- is p the first cell of a block of zone c
+unfoldable pub starts : List ℕ → ℕ → ℕ → Bool
+starts h c p = leb (firstAt h c) p && (ltb p (firstAt h c + manyAt h c * cells c) && eqb ((p - firstAt h c) % cells c) 0)
+
+-- or of a block of these zones
 unfoldable pub leads : List ℕ → ℕ → ℕ → ℕ → Bool
+unfolding starts
 leads h c zero p = false
-leads h c (suc n) p = (leb (firstAt h c) p && (ltb p (firstAt h c + manyAt h c * cells c) && eqb ((p - firstAt h c) % cells c) 0)) || leads h (suc c) n p
+leads h c (suc n) p = starts h c p || leads h (suc c) n p
 
 -- n entries from the i-th on, of which no tag is below `low`: conditions 5 and 14
 unfoldable pub tagsFine : List ℕ → ℕ → ℕ → ℕ → Bool
@@ -64,3 +69,13 @@ checked h =
     && (eqb (manyIn h 0 30) (get16 h 0)
     && (tagsFine h 0 0 (get16 h 0)
     && blank (part h (128 + 6 * get16 h 0) (1536 - 6 * get16 h 0)))))))
+
+-- ---- a dictionary entry by the block that it leads to: the same, where the zones are fine
+
+-- is p the first cell of a block of the zone that the count there names
+unfoldable pub leadsAt : List ℕ → ℕ → ℕ → Bool
+leadsAt h area p = ltb p area && (ltb (countAt h p) 990 && starts h (classOf (countAt h p)) p)
+
+-- the i-th entry
+unfoldable pub entryFine : List ℕ → ℕ → ℕ → ℕ → Bool
+entryFine h area low i = leb low (tagAt h i) && (leadsAt h area (placeAt h i) && eqb (get32 h (cellAt (placeAt h i))) (tagAt h i))

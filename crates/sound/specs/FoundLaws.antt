@@ -1,7 +1,7 @@
 -- What the loops of a check find: bytes that pass every test are a sound home.
 use mathlib.Core.Path.{_≡_, refl, sym, ap, ap₂, _∙_, subst}
-use mathlib.Core.Bool.{Bool, true, false, _&&_, _||_}
-use mathlib.Core.Logic.{_⊎_, inl, inr, ⊎-elim}
+use mathlib.Core.Bool.{true, false, _&&_}
+use mathlib.Core.Logic.{inl, inr}
 use mathlib.Core.List.{List, [], _∷_, _++_, map}
 use Prim.Native.Nat.{ℕ, zero, suc, _+_, _*_, _-_, _%_, _≤_, _<_}
 use native.Mathlib.Omega.{arith}
@@ -10,8 +10,8 @@ use lib.Dec.{leb, ltb, eqb}
 use lib.ListN.{length, drop, replicate, length-append, drop-of-length-le}
 use borrow.Author.Tests.{leb-true, ltb-true, eqb-true, ne-eqb}
 use Rattle.wire.specs.Bytes.{pick, part, get16, get32, bytes16, blank, Bytes}
-use Rattle.wire.specs.BytesLaws.{length-part, blank-is, part-add}
-use Rattle.wire.specs.Cases.{by-eq, by-lt, both, never}
+use Rattle.wire.specs.BytesLaws.{length-part, blank-is, part-add, part-none}
+use Rattle.wire.specs.Cases.{by-eq, by-lt, both, never, by-or}
 use Rattle.wire.specs.All.{All, none, more, all-append, all-map}
 use Rattle.records.specs.Records.{rising, records}
 use Rattle.records.specs.Cells.{length-records}
@@ -23,14 +23,14 @@ use Rattle.home.specs.Perm.{In, Pairs, single, after}
 use Rattle.home.specs.Layout.{Sits, Laid, Fit, Valid}
 use Rattle.home.specs.Bytes.{blockBytes, Spot, row, spots, area, entries, Entry, entryOf, dictionary, entriesBytes, padded, encode, cellAt, entryAt, countAt, blockAt, blocksAt, firstAt, manyAt, zoneAt, zonesFrom, decode, tagAt, placeAt, entriesAt, endAt}
 use Rattle.home.specs.Sound.{pagesOf, sized, Sound}
-use Rattle.sound.specs.CheckTurns.{end-inside}
-use Rattle.sound.specs.Checks.{blockFine, blocksFine, zoneFine, zonesFine, manyIn, leads, tagsFine, checked}
+use Rattle.sound.specs.CheckLoopLaws.{end-inside}
+use Rattle.sound.specs.Checks.{blockFine, blocksFine, zoneFine, zonesFine, manyIn, leads, tagsFine, checked, starts}
 use Rattle.home.specs.PermLaws.{all-left, all-right, map-in}
 use Rattle.home.specs.BytesLaws.{chop, get32-small, records-fit, bytes16-read, bytes32-read}
 use Rattle.home.specs.AreaLaws.{laid-fit, Clean}
 use Rattle.home.specs.HomeLaws.{ReadsAt, ZeroAt, length-spots, encode-area, length-encode-home, encode-reads, encode-clean}
 use Rattle.home.specs.SoundLaws.{Sized, t-sized}
-use Rattle.home.specs.DictionaryLaws.{Else, Below, dictionary-of, distinct-tags}
+use Rattle.home.specs.DictionaryLaws.{Else, Below, dictionary-of, distinct-tags, zone-spots}
 
 -- a part in two
 split : (l : List ℕ) (at m n at' : ℕ) → at + m ≡ at' → part l at (m + n) ≡ part l at m ++ part l at' n
@@ -38,10 +38,6 @@ split l at m n at' e = part-add l at m n ∙ ap (λ (k : ℕ). part l at m ++ pa
 
 blank-part : (l : List ℕ) (at n : ℕ) → at + n ≤ length l → blank (part l at n) ≡ true → part l at n ≡ replicate n 0
 blank-part l at n b t = blank-is (part l at n) t ∙ ap (λ (k : ℕ). replicate k 0) (length-part l at n b)
-
-part-none : (l : List ℕ) (at : ℕ) → [] ≡ part l at 0
-unfolding part
-part-none l at = refl
 
 -- ---- blocks
 
@@ -187,7 +183,7 @@ module _ (h : List ℕ) (bytes : Bytes h) where
     unfolding zonesFine zonesFrom zoneAt entries spots blocks manyIn
     zones-found c e zero b en t =
         let u = both (leb e n) (blank (part h (cellAt e) (8 * (n - e)))) t in
-        record { classes = refl; laid = en; reads = none; clean = blank-part h (cellAt e) (8 * (n - e)) (omega arith) (u .1); written = part-none h (entryAt c); many = refl }
+        record { classes = refl; laid = en; reads = none; clean = blank-part h (cellAt e) (8 * (n - e)) (omega arith) (u .1); written = sym (part-none h (entryAt c)); many = refl }
     zones-found c e (suc k) b en t =
         let u = both (zoneFine h n c e) (zonesFine h n (suc c) (endAt h c e) k) t in
         zone-found c e k (firstAt h c) (manyAt h c) (zonesFrom h (suc c) k) (omega arith) refl refl en (u .0)
@@ -202,7 +198,7 @@ length-entriesAt h i (suc n) = ap suc (length-entriesAt h (suc i) n)
 
 entries-again : (h : List ℕ) (i n : ℕ) → Bytes h → 128 + 6 * (i + n) ≤ length h → entriesBytes (entriesAt h i n) ≡ part h (128 + 6 * i) (6 * n)
 unfolding entriesAt entriesBytes
-entries-again h i zero b g = part-none h (128 + 6 * i)
+entries-again h i zero b g = sym (part-none h (128 + 6 * i))
 entries-again h i (suc n) b g =
     let at : ℕ = 128 + 6 * i in
     let e : 6 * suc n ≡ 4 + (2 + 6 * n) = omega arith in
@@ -220,10 +216,6 @@ in-right : {A : Type 0} (x : A) (xs ys : List A) → In x ys → In x (xs ++ ys)
 in-right x [] ys i = i
 in-right x (y ∷ xs) ys i = inr (in-right x xs ys i)
 
-or-true : (a b : Bool) → a || b ≡ true → (a ≡ true) ⊎ (b ≡ true)
-or-true true b e = inl refl
-or-true false b e = inr e
-
 module _ (h : List ℕ) where
   -- the block of class c at cell p
   abbrev spotAt : ℕ → ℕ → Spot
@@ -240,29 +232,22 @@ module _ (h : List ℕ) where
       (λ g. let e : 1 * cells c + (p - (f + cells c)) ≡ p - f = omega arith in
       inr (row-in c (f + cells c) n p (omega arith) (omega arith) (sym (mul-add-mod-self-right 1 (cells c) (p - (f + cells c))) ∙ ap (λ (x : ℕ). x % cells c) e ∙ m))))
 
-  zone-spots : (c f : ℕ) (bs : List Block) (zs : List Zone) → spots c (zone f bs ∷ zs) ≡ row c f bs ++ spots (suc c) zs
-  unfolding spots zone row
-  zone-spots c f [] zs = refl
-  zone-spots c f (x ∷ xs) zs = refl
-
   leads-in : (c k p : ℕ) → leads h c k p ≡ true → (d : ℕ) × In (spotAt d p) (spots c (zonesFrom h c k))
-  unfolding leads zonesFrom zoneAt
+  unfolding leads starts zonesFrom zoneAt
   leads-in c zero p t = never t
   leads-in c (suc k) p t =
       let f : ℕ = firstAt h c in
       let bs : List Block = blocksAt h c f (manyAt h c) in
       let zs : List Zone = zonesFrom h (suc c) k in
-      let here : Bool = leb f p && (ltb p (f + manyAt h c * cells c) && eqb ((p - f) % cells c) 0) in
-      ⊎-elim
-      (λ (u : here ≡ true). let u1 = both (leb f p) _ u in
+      by-or (starts h c p) (leads h (suc c) k p) t
+      (λ u. let u1 = both (leb f p) _ u in
       let u2 = both (ltb p (f + manyAt h c * cells c)) _ (u1 .1) in (
         c,
         subst (In (spotAt c p)) (sym (zone-spots c f bs zs))
             (in-left (spotAt c p) (row c f bs) (spots (suc c) zs) (row-in c f (manyAt h c) p (leb-true f p (u1 .0)) (ltb-true p (f + manyAt h c * cells c) (u2 .0)) (eqb-true ((p - f) % cells c) 0 (u2 .1)))),
       ))
-      (λ (u : leads h (suc c) k p ≡ true). let r = leads-in (suc c) k p u in
+      (λ u. let r = leads-in (suc c) k p u in
       (r .0, subst (In (spotAt (r .0) p)) (sym (zone-spots c f bs zs)) (in-right (spotAt (r .0) p) (row c f bs) (spots (suc c) zs) (r .1))))
-      (or-true here (leads h (suc c) k p) t)
 
   -- what passes for n entries from the i-th on
   record FoundTags (low i n : ℕ) : Type 0 where

@@ -2,4 +2,4 @@ pub mod Checks
 pub mod FoundLaws
 pub mod PassLaws
 pub mod ChecksLaws
-pub mod CheckTurns
+pub mod CheckLoopLaws

@@ -1,6 +1,6 @@
 -- The other half: a sound home passes every test.
 use mathlib.Core.Path.{_≡_, refl, sym, ap, _∙_, subst}
-use mathlib.Core.Bool.{Bool, true, false, _&&_, _||_}
+use mathlib.Core.Bool.{Bool, true, false, _&&_}
 use mathlib.Core.List.{List, [], _∷_, _++_, append-assoc}
 use mathlib.Core.Logic.{_⊎_, inl, inr}
 use Prim.Native.Nat.{ℕ, suc, _+_, _*_, _-_, _%_, _≤_, _<_}
@@ -13,6 +13,7 @@ use borrow.Author.Tests.{le-leb, lt-ltb, eq-eqb, ne-eqb}
 use Rattle.wire.specs.Bytes.{part, get16, get32, bytes16, bytes32, blank}
 use Rattle.wire.specs.BytesLaws.{blank-zeros}
 use Rattle.wire.specs.All.{All, more, all-map}
+use Rattle.wire.specs.Cases.{or-left, or-right}
 use Rattle.records.specs.Records.{rising, records, encode as recordBytes}
 use Rattle.records.specs.Edits.{length-encode}
 use Rattle.home.specs.Capacities.{cells, capacity, classOf}
@@ -20,9 +21,9 @@ use Rattle.home.specs.CapacitiesLaws.{cells-pos, cells-most}
 use Rattle.home.specs.Zones.{Block, Zone, empty, from, blocks}
 use Rattle.home.specs.Perm.{In, Pairs, after}
 use Rattle.home.specs.Layout.{Sits, Laid, Fit, Valid}
-use Rattle.home.specs.Bytes.{blockBytes, Spot, row, spots, area, entries, Entry, entryOf, dictionary, entriesBytes, padded, encode, cellAt, firstAt, manyAt, tagAt, placeAt, endAt}
+use Rattle.home.specs.Bytes.{blockBytes, Spot, row, spots, area, entries, Entry, entryOf, dictionary, entriesBytes, padded, encode, cellAt, tagAt, placeAt, endAt}
 use Rattle.home.specs.Sound.{pagesOf, sized, Sound}
-use Rattle.sound.specs.Checks.{blockFine, blocksFine, zoneFine, zonesFine, manyIn, leads, tagsFine, checked}
+use Rattle.sound.specs.Checks.{blockFine, blocksFine, zoneFine, zonesFine, manyIn, leads, tagsFine, checked, starts}
 use Rattle.home.specs.PermLaws.{all-left, all-right, in-map, in-all, all-in, pin}
 use Rattle.home.specs.BytesLaws.{part-join}
 use Rattle.home.specs.AreaLaws.{laid-fit, fit-le, spots-sit, Clean}
@@ -101,13 +102,6 @@ many-pass h c (from f x xs ∷ zs) d = let e = many-pass h (suc c) zs (d .2) in 
 
 -- ---- the dictionary
 
-or-left : (a b : Bool) → a ≡ true → a || b ≡ true
-or-left a b e = rw e
-
-or-right : (a b : Bool) → b ≡ true → a || b ≡ true
-or-right true b e = refl
-or-right false b e = e
-
 in-either : {A : Type 0} (x : A) (xs ys : List A) → In x (xs ++ ys) → In x xs ⊎ In x ys
 in-either x [] ys i = inr i
 in-either x (y ∷ xs) ys (inl e) = inl (inl e)
@@ -131,19 +125,16 @@ row-starts c f (x ∷ xs) s (inr i) =
     let e : s .cell - f ≡ 1 * cells c + (s .cell - (f + cells c)) = omega (arith, t .low) in
     record { low = omega (arith, t .low); high = omega (arith, t .high); whole = rw e (mul-add-mod-self-right 1 (cells c) (s .cell - (f + cells c)) ∙ t .whole) }
 
-abbrev here : List ℕ → ℕ → ℕ → Bool
-here h c p = leb (firstAt h c) p && (ltb p (firstAt h c + manyAt h c * cells c) && eqb ((p - firstAt h c) % cells c) 0)
-
 leads-pass : (h : List ℕ) (c : ℕ) (zs : List Zone) (s : Spot) → Entries h c zs → In s (spots c zs) → leads h c (length zs) (s .cell) ≡ true
-unfolding leads spots
+unfolding leads starts spots
 leads-pass h c [] s d i = absurd i
-leads-pass h c (empty ∷ zs) s d i = or-right (here h c (s .cell)) (leads h (suc c) (length zs) (s .cell)) (leads-pass h (suc c) zs s (d .2) i)
+leads-pass h c (empty ∷ zs) s d i = or-right (starts h c (s .cell)) (leads h (suc c) (length zs) (s .cell)) (leads-pass h (suc c) zs s (d .2) i)
 leads-pass h c (from f x xs ∷ zs) s d i =
     elim (in-either s (row c f (x ∷ xs)) (spots (suc c) zs) i) [
       | inl a ↦ let t : Starts c f (suc (length xs)) (s .cell) = row-starts c f (x ∷ xs) s a in
           rw (d .1, d .0) (or-left _ (leads h (suc c) (length zs) (s .cell))
           (yes (leb f (s .cell)) _ (le-leb f (s .cell) (t .low)) (yes (ltb (s .cell) (f + suc (length xs) * cells c)) _ (lt-ltb (s .cell) (f + suc (length xs) * cells c) (t .high)) (eq-eqb ((s .cell - f) % cells c) 0 (t .whole)))))
-      | inr b ↦ or-right (here h c (s .cell)) (leads h (suc c) (length zs) (s .cell)) (leads-pass h (suc c) zs s (d .2) b)
+      | inr b ↦ or-right (starts h c (s .cell)) (leads h (suc c) (length zs) (s .cell)) (leads-pass h (suc c) zs s (d .2) b)
     ]
 
 -- an entry that leads to a block

@@ -16,8 +16,7 @@ ghost use Rattle.records.specs.Records.{rising as ordered, records};
 ghost use Rattle.home.specs.Capacities.{capacity as capacityOf, under as underOf, cells as cellsOf, short};
 ghost use Rattle.home.specs.Bytes.{cellAt, tagAt};
 ghost use Rattle.home.specs.Sound.{sized as sizedOf, sound as isSound};
-ghost use Rattle.sound.specs.Checks.{blockFine, blocksFine, lies as liesIn, zoneFine, zonesFine, manyIn, tagsFine};
-ghost use Rattle.sound.specs.CheckTurns.{leadsAt, entryFine};
+ghost use Rattle.sound.specs.Checks.{blockFine, blocksFine, lies as liesIn, zoneFine, zonesFine, manyIn, tagsFine, leadsAt, entryFine};
 
 // Whether n bytes from an offset on are zero.
 fn zeros(home: &[u8], at: usize, n: usize) -> bool

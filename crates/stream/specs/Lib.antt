@@ -2,5 +2,5 @@ pub mod Stream
 pub mod Feeds
 pub mod StreamLaws
 pub mod Whole
-pub mod Turns
+pub mod LoopLaws
 pub mod Examples

@@ -7,7 +7,7 @@
 // d delete, s set, x drop. Calls on the image: f format, L and R in place of tag and second; b begin; c commit and
 // r recover, the allowance in place of the tag. Words: ok a count, no a refusal, dn done, ct cut. A sequence is
 // headed by n with L and R as for format, and ends with a line of dashes.
-use edits::Answer;
+use home::Answer;
 use index::Begun;
 use log::Outcome;
 use records::Record;
@@ -150,7 +150,7 @@ fn of_begun(b: Begun) -> Told {
             word: b'd',
             number: 0,
         },
-        Begun::Unbegun(n) => Told {
+        Begun::Refused(n) => Told {
             word: b'n',
             number: n as usize,
         },

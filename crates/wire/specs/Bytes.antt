@@ -1,6 +1,7 @@
 -- Runs of bytes and the numbers in them. All numbers are unsigned, most significant byte first.
 use Prim.Native.Nat.{ℕ, zero, suc, _+_, _*_, _/_, _%_, _<_}
 use mathlib.Core.Bool.{Bool, true, false, _&&_}
+use mathlib.Core.Option.{Option, none, some}
 use mathlib.Core.List.{List, [], _∷_}
 use lib.ListN.{take, drop, getD}
 use lib.Dec.{eqb}
@@ -8,6 +9,11 @@ use lib.Dec.{eqb}
 abbrev pub pick {ℓ} : {A : Type ℓ} → Bool → A → A → A
 pick true a b = a
 pick false a b = b
+
+-- is there an answer
+abbrev pub isSome : {A : Type 0} → Option A → Bool
+isSome none = false
+isSome (some x) = true
 
 -- each value fits a byte
 abbrev pub Bytes : List ℕ → Type 0

@@ -1,5 +1,6 @@
 -- Laws of runs of bytes and their numbers, most of them byte by byte.
 use mathlib.Core.Path.{_≡_, refl, sym, ap, ap₂, _∙_}
+use mathlib.Core.Logic.{_⊎_, inl, inr}
 use mathlib.Core.Bool.{Bool, true, false, _&&_, and-assoc}
 use Prim.Native.Nat.{ℕ, zero, suc, _+_, _-_, _*_, _/_, _%_, _≤_, _<_, min}
 use native.Mathlib.Omega.{arith}
@@ -7,12 +8,12 @@ use native.Mathlib.Nat.{add-zero, sub-zero, zero-sub, suc-sub-suc, le-of-suc-le-
 use native.Mathlib.Numerals.{add-one}
 use mathlib.Core.List.{List, [], _∷_, _++_, append-assoc, append-nil}
 use lib.ListN.{length, take, drop, set, getD, replicate, length-take, length-drop, length-replicate, replicate-append-replicate, drop-of-length-le, take-append-drop}
-use lib.Seq.{getD-take, getD-drop, ext-getD, sets, sets-eq, drop-cons, drop-drop, take-add, take-suc, length-take-le}
+use lib.Seq.{getD-take, getD-drop, ext-getD, sets, sets-eq, drop-cons, drop-drop, take-add, take-suc, drop-at, length-take-le}
 use lib.Dec.{eqb}
 use lib.Bits.{bitOr, or-add-and, and-le-l, and-le-r}
 use borrow.Author.Tests.{eq-eqb, ne-eqb, eqb-true}
 use Rattle.wire.specs.Bytes.{part, over, get16, get32, bytes16, bytes32, equal, blank}
-use Rattle.wire.specs.Cases.{by-test, by-eq, both, never, and-true, and-false}
+use Rattle.wire.specs.Cases.{by-test, by-eq, by-within, both, never, and-true, and-false}
 
 -- ---- part
 
@@ -96,6 +97,9 @@ over-high (x ∷ l) zero (b ∷ bs) (suc i) g = over-high l zero bs i (omega ari
 over-high (x ∷ l) (suc at) bs zero g = absurd (omega arith)
 over-high (x ∷ l) (suc at) bs (suc i) g = over-high l at bs i (omega arith)
 
+pub over-at : (l : List ℕ) (at : ℕ) (bs : List ℕ) (i : ℕ) → at ≤ i → i < at + length bs → i < length l → getD (over l at bs) i 0 ≡ getD bs (i - at) 0
+over-at l at bs i a b c = let e : at + (i - at) ≡ i = omega arith in ap (λ (k : ℕ). getD (over l at bs) k 0) (sym e) ∙ over-in l at bs (i - at) (omega arith) (omega arith)
+
 pub over-nil : (l : List ℕ) (at : ℕ) → over l at [] ≡ l
 unfolding over
 over-nil [] at = refl
@@ -108,6 +112,10 @@ unfolding over
 over-cons [] at b bs = refl
 over-cons (x ∷ l) zero b bs = refl
 over-cons (x ∷ l) (suc at) b bs = ap (_∷_ x) (over-cons l at b bs)
+
+-- one byte stored
+pub set-over : (l : List ℕ) (i m : ℕ) → set l i m ≡ over l i (m ∷ [])
+set-over l i m = sym (over-nil (set l i m) (suc i)) ∙ over-cons l i m []
 
 -- one byte stored before
 pub over-before : (l : List ℕ) (at b : ℕ) (bs : List ℕ) → set (over l (suc at) bs) at b ≡ over l at (b ∷ bs)
@@ -131,6 +139,9 @@ over-append [] at bs cs = refl
 over-append (x ∷ l) zero [] cs = refl
 over-append (x ∷ l) zero (b ∷ bs) cs = let e : zero + suc (length bs) ≡ suc (zero + length bs) = omega arith in rw e (ap (_∷_ b) (over-append l zero bs cs))
 over-append (x ∷ l) (suc at) bs cs = let e : suc at + length bs ≡ suc (at + length bs) = omega arith in rw e (ap (_∷_ x) (over-append l at bs cs))
+
+pub over-next : (l : List ℕ) (at k : ℕ) (bs cs : List ℕ) → k ≡ at + length bs → over (over l at bs) k cs ≡ over l at (bs ++ cs)
+over-next l at k bs cs e = ap (λ (j : ℕ). over (over l at bs) j cs) e ∙ over-append l at bs cs
 
 -- stores one after the other
 pub over-sets : (l : List ℕ) (at : ℕ) (bs : List ℕ) → sets l at bs ≡ over l at bs
@@ -166,6 +177,89 @@ part-over l at bs g =
     let e : length (part (over l at bs) at (length bs)) ≡ length bs = length-part (over l at bs) at (length bs) (rw length-over g) in
     ext-getD 0 (part (over l at bs) at (length bs)) bs e
     (λ i h. let k : i < length bs = omega arith in part-at (over l at bs) at (length bs) i k ∙ over-in l at bs i k (omega arith))
+
+-- ---- over: twice, or read elsewhere
+
+-- the parts of n bytes from i on and of m from j on have no byte in common
+abbrev pub Clear : ℕ → ℕ → ℕ → ℕ → Type 0
+Clear i n j m = (i + n ≤ j) ⊎ (j + m ≤ i)
+
+-- a part where nothing was written
+pub part-else : (l : List ℕ) (i : ℕ) (v : List ℕ) (j m : ℕ) → Clear i (length v) j m → part (over l i v) j m ≡ part l j m
+part-else l i v j m (inl d) = part-same l (over l i v) j m (length-over l i v) (λ k lo hi. over-high l i v k (omega arith))
+part-else l i v j m (inr d) = part-same l (over l i v) j m (length-over l i v) (λ k lo hi. over-low l i v k (omega arith))
+
+byte-else : (l : List ℕ) (i : ℕ) (v : List ℕ) (k : ℕ) → Clear i (length v) k 1 → getD (over l i v) k 0 ≡ getD l k 0
+byte-else l i v k (inl g) = over-high l i v k g
+byte-else l i v k (inr g) = over-low l i v k (omega arith)
+
+-- the same place written again
+pub over-again : (l : List ℕ) (i : ℕ) (v w : List ℕ) → length v ≡ length w → i + length v ≤ length l → over (over l i w) i v ≡ over l i v
+over-again l i v w e b =
+    ext-getD 0 (over (over l i w) i v) (over l i v) (length-over (over l i w) i v ∙ length-over l i w ∙ sym (length-over l i v))
+    (λ k g. let lk : k < length l = omega (arith, length-over (over l i w) i v, length-over l i w) in
+    by-within i (length v) k
+    (λ a. over-low (over l i w) i v k a ∙ over-low l i w k a ∙ sym (over-low l i v k a))
+    (λ a c. over-at (over l i w) i v k a c (omega (arith, length-over l i w)) ∙ sym (over-at l i v k a c lk))
+    (λ a. over-high (over l i w) i v k a ∙ over-high l i w k (omega arith) ∙ sym (over-high l i v k a)))
+
+-- what stands there written again
+pub over-same : (l : List ℕ) (i : ℕ) (v : List ℕ) → i + length v ≤ length l → part l i (length v) ≡ v → over l i v ≡ l
+over-same l i v b e =
+    ext-getD 0 (over l i v) l (length-over l i v)
+    (λ k g. by-within i (length v) k
+    (λ a. over-low l i v k a)
+    (λ a c. over-at l i v k a c (omega (arith, length-over l i v)) ∙ ap (λ (x : List ℕ). getD x (k - i) 0) (sym e) ∙ part-at l i (length v) (k - i) (omega arith) ∙ ap (λ (j : ℕ). getD l j 0) (omega arith))
+    (λ a. over-high l i v k a))
+
+over-apart : (l : List ℕ) (i : ℕ) (v : List ℕ) (j : ℕ) (w : List ℕ) → i + length v ≤ j → over (over l j w) i v ≡ over (over l i v) j w
+over-apart l i v j w d =
+    ext-getD 0 (over (over l j w) i v) (over (over l i v) j w) (length-over (over l j w) i v ∙ length-over l j w ∙ sym (length-over (over l i v) j w ∙ length-over l i v))
+    (λ k h. let g : k < length l = omega (arith, length-over (over l j w) i v, length-over l j w) in
+    by-within i (length v) k
+    (λ e. over-low (over l j w) i v k e ∙ over-low l j w k (omega arith) ∙ sym (over-low (over l i v) j w k (omega arith) ∙ over-low l i v k e))
+    (λ e f. over-at (over l j w) i v k e f (omega (arith, length-over l j w)) ∙ sym (over-low (over l i v) j w k (omega arith) ∙ over-at l i v k e f g))
+    (λ e. over-high (over l j w) i v k e ∙ by-within j (length w) k
+    (λ x. over-low l j w k x ∙ sym (over-low (over l i v) j w k x ∙ over-high l i v k e))
+    (λ x y. over-at l j w k x y g ∙ sym (over-at (over l i v) j w k x y (omega (arith, length-over l i v))))
+    (λ x. over-high l j w k x ∙ sym (over-high (over l i v) j w k x ∙ over-high l i v k e))))
+
+-- in either order
+pub over-comm : (l : List ℕ) (i : ℕ) (v : List ℕ) (j : ℕ) (w : List ℕ) → Clear i (length v) j (length w) → over (over l j w) i v ≡ over (over l i v) j w
+over-comm l i v j w (inl d) = over-apart l i v j w d
+over-comm l i v j w (inr d) = sym (over-apart l j w i v d)
+
+-- ---- over and part: of two runs joined
+
+pub over-behind : (p q : List ℕ) (i k : ℕ) (bs : List ℕ) → length p ≡ i → over (p ++ q) (i + k) bs ≡ p ++ over q k bs
+unfolding over
+over-behind [] q i k bs e = let a : i + k ≡ k = omega arith in rw a
+over-behind (x ∷ p) q zero k bs e = absurd (omega arith)
+over-behind (x ∷ p) q (suc i) k bs e = let a : suc i + k ≡ suc (i + k) = omega arith in rw a (ap (_∷_ x) (over-behind p q i k bs (omega arith)))
+
+pub over-ahead : (p q : List ℕ) (k : ℕ) (bs : List ℕ) → k + length bs ≤ length p → over (p ++ q) k bs ≡ over p k bs ++ q
+unfolding over
+over-ahead [] q k [] g = over-nil q k
+over-ahead [] q k (b ∷ bs) g = absurd (omega arith)
+over-ahead (x ∷ p) q zero [] g = refl
+over-ahead (x ∷ p) q zero (b ∷ bs) g = ap (_∷_ b) (over-ahead p q zero bs (omega arith))
+over-ahead (x ∷ p) q (suc k) bs g = ap (_∷_ x) (over-ahead p q k bs (omega arith))
+
+pub part-behind : (p q : List ℕ) (i k n : ℕ) → length p ≡ i → part (p ++ q) (i + k) n ≡ part q k n
+part-behind p q i k n e = sym (part-drop (p ++ q) i k n) ∙ ap (λ (x : List ℕ). part x k n) (drop-at p q i e)
+
+pub part-ahead : (p q : List ℕ) (k n : ℕ) → k + n ≤ length p → part (p ++ q) k n ≡ part p k n
+unfolding part
+part-ahead p q k zero g = refl
+part-ahead [] q k (suc n) g = absurd (omega arith)
+part-ahead (x ∷ p) q zero (suc n) g = ap (_∷_ x) (part-ahead p q zero n (omega arith))
+part-ahead (x ∷ p) q (suc k) (suc n) g = part-ahead p q k (suc n) (omega arith)
+
+-- a run replaced by another of its length
+pub over-seam : (p q r v : List ℕ) (i : ℕ) → length p ≡ i → length q ≡ length v → over (p ++ (q ++ r)) i v ≡ p ++ (v ++ r)
+over-seam p q r v i a b =
+    ap (λ (k : ℕ). over (p ++ (q ++ r)) k v) (sym (add-zero i)) ∙ over-behind p (q ++ r) i 0 v a
+    ∙ ap (λ (x : List ℕ). p ++ x) (over-ahead q r 0 v (omega arith) ∙ ap (λ (x : List ℕ). x ++ r) (over-whole q v (sym b)))
 
 -- ---- equal, blank
 
@@ -209,6 +303,41 @@ length-bytes16 v = refl
 pub length-bytes32 : (v : ℕ) → length (bytes32 v) ≡ 4
 unfolding bytes32
 length-bytes32 v = refl
+
+-- a number where nothing is written
+part-clear : (i n j m k l : ℕ) → Clear i n j m → j ≤ k → k + l ≤ j + m → Clear i n k l
+part-clear i n j m k l (inl g) a b = inl (omega arith)
+part-clear i n j m k l (inr g) a b = inr (omega arith)
+
+pub get16-else : (l : List ℕ) (i : ℕ) (v : List ℕ) (j : ℕ) → Clear i (length v) j 2 → get16 (over l i v) j ≡ get16 l j
+unfolding get16
+get16-else l i v j g =
+    let at : (k : ℕ) → j ≤ k → k < j + 2 → getD (over l i v) k 0 ≡ getD l k 0 = λ k a b. byte-else l i v k (part-clear i (length v) j 2 k 1 g a (omega arith)) in
+    rw (at j (omega arith) (omega arith), at (j + 1) (omega arith) (omega arith))
+
+pub get32-else : (l : List ℕ) (i : ℕ) (v : List ℕ) (j : ℕ) → Clear i (length v) j 4 → get32 (over l i v) j ≡ get32 l j
+unfolding get32
+get32-else l i v j g =
+    let at : (k : ℕ) → j ≤ k → k < j + 4 → getD (over l i v) k 0 ≡ getD l k 0 = λ k a b. byte-else l i v k (part-clear i (length v) j 4 k 1 g a (omega arith)) in
+    rw (at j (omega arith) (omega arith), at (j + 1) (omega arith) (omega arith), at (j + 2) (omega arith) (omega arith), at (j + 3) (omega arith) (omega arith))
+
+-- the bytes that it was read from
+pub digits16 : (a b : ℕ) → a < 256 → b < 256 → bytes16 (a * 256 + b) ≡ a ∷ b ∷ []
+unfolding bytes16
+digits16 a b ha hb =
+    let e : (a * 256 + b) / 256 % 256 ≡ a = omega arith in
+    let f : (a * 256 + b) % 256 ≡ b = omega arith in
+    rw (e, f)
+
+pub digits32 : (a b c d : ℕ) → a < 256 → b < 256 → c < 256 → d < 256 → bytes32 (a * 16777216 + b * 65536 + c * 256 + d) ≡ a ∷ b ∷ c ∷ d ∷ []
+unfolding bytes32
+digits32 a b c d ha hb hc hd =
+    let v : ℕ = a * 16777216 + b * 65536 + c * 256 + d in
+    let e : v / 16777216 % 256 ≡ a = omega arith in
+    let f : v / 65536 % 256 ≡ b = omega arith in
+    let g : v / 256 % 256 ≡ c = omega arith in
+    let h : v % 256 ≡ d = omega arith in
+    rw (e, f, g, h)
 
 -- the bytes of a number read back as it
 pub get16-over : (l : List ℕ) (at v : ℕ) → at + 1 < length l → v < 65536 → get16 (over l at (bytes16 v)) at ≡ v

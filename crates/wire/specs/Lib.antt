@@ -2,3 +2,5 @@ pub mod Bytes
 pub mod Cases
 pub mod BytesLaws
 pub mod All
+pub mod Rules
+pub mod RulesLaws

@@ -10,20 +10,20 @@ use native.Mathlib.Numerals.{add-one}
 use lib.ListN.{length, take, drop, getD, take-append-drop, drop-of-length-le, length-take}
 use lib.Seq.{take-at, drop-at}
 use Rattle.wire.specs.Cases.{never}
+use Rattle.wire.specs.Bytes.{isSome}
 use Rattle.home.specs.Capacities.{cells, classOf}
 use Rattle.home.specs.CapacitiesLaws.{cells-mono, cells-pos}
 use Rattle.home.specs.Zones.{Block, Zone, empty, blocks, added, endOf, joined, total, afresh, layAfresh, settle}
 use Rattle.home.specs.Layout.{Valid}
-use Rattle.home.specs.Cases.{isSome, orElse, holds-some}
+use Rattle.home.specs.Cases.{orElse, holds-some}
 use Rattle.home.specs.FindLaws.{lacks-has}
 use Rattle.home.specs.PlaceLaws.{Placed}
 use Rattle.home.specs.AfreshLaws.{afresh-length, afresh-blocks, laid-holds, fit-total}
 use Rattle.home.specs.Bytes.{encode, decode, firstAt, manyAt}
 use Rattle.home.specs.Sound.{pagesOf}
-use Rattle.moves.specs.HomeLaws.{Loose}
 use Rattle.moves.specs.StepLaws.{firstOf, manyOf}
 use Rattle.moves.specs.LooseLaws.{blocks-append}
-use Rattle.moves.specs.Stored.{settled, endAfter, Stored}
+use Rattle.moves.specs.Stored.{settled, endAfter, Stored, Loose}
 use Rattle.moves.specs.CloseLaws.{decode-loose, pages-loose}
 use Rattle.moves.specs.Slide.{rebased, Slides, slid}
 use Rattle.zones.specs.SoundLaws.{sound-valid, valid-loose}
@@ -271,7 +271,7 @@ module _ (h : List ℕ) (t : ℕ) (bs : List ℕ) (c k : ℕ) (l : Fitting h t b
 
   -- the sizes add up to more
   pub laying-none : 8 * N < total cells 0 ys + k → (false ≡ isSome (laidIn h t bs)) × (h ≡ settled N h (laidIn h t bs))
-  unfolding isSome settled
+  unfolding settled
   laying-none o = rw (sym in-is ∙ lay-none (8 * N) c b ys there (rw size at o)) (refl, refl)
 
   module _ (r : total cells 0 ys + k ≤ 8 * N) where
@@ -356,14 +356,14 @@ module _ (h : List ℕ) (t : ℕ) (bs : List ℕ) (c k : ℕ) (l : Fitting h t b
             (rw (way .class) at x)))
 
         pub laying-done : (h₃ : List ℕ) → h₃ ≡ withBlock h₂ c p t bs → (true ≡ isSome (laidIn h t bs)) × (h₃ ≡ settled N h (laidIn h t bs))
-        unfolding isSome settled
+        unfolding settled
         laying-done h₃ d = rw (sym in-is ∙ is-some) (refl, d ∙ laying-puts .bytes)
 
 -- ---- placed, or laid out afresh
 
 module _ (h : List ℕ) (t : ℕ) (bs : List ℕ) (r : Bool) (h' : List ℕ) (a : r ≡ isSome (placedIn h t bs)) (q : h' ≡ settled (pagesOf h) h (placedIn h t bs)) where
   pub settled-placed : r ≡ true → (true ≡ isSome (settledIn h t bs)) × (h' ≡ settled (pagesOf h) h (settledIn h t bs))
-  unfolding settle isSome orElse
+  unfolding settle orElse
   settled-placed e = by (placedIn h t bs) (sym e ∙ a) q
     where
       by : (o : Option (List Zone)) → true ≡ isSome o → h' ≡ settled (pagesOf h) h o
@@ -373,7 +373,7 @@ module _ (h : List ℕ) (t : ℕ) (bs : List ℕ) (r : Bool) (h' : List ℕ) (a 
 
   -- nothing is stored yet
   else-is : r ≡ false → (h' ≡ h) × (settledIn h t bs ≡ laidIn h t bs)
-  unfolding settle isSome orElse settled
+  unfolding settle orElse settled
   else-is e = by (placedIn h t bs) (sym e ∙ a) q
     where
       by : (o : Option (List Zone)) → false ≡ isSome o → h' ≡ settled (pagesOf h) h o → (h' ≡ h) × (orElse o (laidIn h t bs) ≡ laidIn h t bs)

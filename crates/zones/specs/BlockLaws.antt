@@ -23,13 +23,14 @@ use Rattle.home.specs.SoundLaws.{encode-decode}
 use Rattle.home.specs.declared.lookup.Slot.the-variants.{At}
 use Rattle.home.specs.Lookup.{slotOf}
 use Rattle.home.specs.LookupLaws.{entry-in}
-use Rattle.home.specs.LookupTurns.{sound-ordered, slot-at}
+use Rattle.home.specs.LookupLoopLaws.{sound-ordered, slot-at}
 use Rattle.moves.specs.SpotLaws.{spot, gone-before}
-use Rattle.moves.specs.HomeLaws.{Loose, length-zones, fine, encode-state, others}
+use Rattle.moves.specs.HomeLaws.{length-zones, fine, encode-state, others}
 use Rattle.moves.specs.StateLaws.{state-entries}
 use Rattle.moves.specs.StepLaws.{in-zone}
 use Rattle.moves.specs.LooseLaws.{length-loose}
 use Rattle.moves.specs.CloseLaws.{reads-loose}
+use Rattle.moves.specs.Stored.{Loose}
 use Rattle.zones.specs.SoundLaws.{sound-small, sound-loose}
 use Rattle.zones.specs.Known.{Known}
 use Rattle.zones.specs.KnownLaws.{Located, located}

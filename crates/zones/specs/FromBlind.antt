@@ -8,15 +8,13 @@ use native.Mathlib.Omega.{arith}
 use lib.ListN.{length, getD}
 use lib.Seq.{ext-getD}
 use Rattle.wire.specs.Bytes.{part, over, get16, bytes16, bytes32}
-use Rattle.wire.specs.BytesLaws.{length-over, over-low, over-high, length-part, part-at, part-over, length-bytes16}
+use Rattle.wire.specs.BytesLaws.{length-over, over-low, over-high, length-part, part-at, part-over, length-bytes16, over-at, over-comm}
 use Rattle.wire.specs.Cases.{by-within}
 use Rattle.home.specs.Capacities.{cells, classOf}
 use Rattle.home.specs.Cases.{Holds, holds-under, map-swap}
 use Rattle.home.specs.Bytes.{cellAt, entryAt, firstAt, manyAt, endAt}
 use Rattle.home.specs.Lookup.{indexOf}
 use Rattle.moves.specs.Moves.{wordAt, counted, entered, zoned}
-use Rattle.moves.specs.MovesLaws.{at-in}
-use Rattle.moves.specs.AreaLaws.{over-comm}
 use Rattle.seats.specs.Seat.{cellFor, firstWith, endFrom, raised, seated}
 use Rattle.seats.specs.UntouchedLaws.{Untouched, untouched-ordered}
 use Rattle.seats.specs.StackLaws.{raised-long}
@@ -93,7 +91,7 @@ module _ (c : ℕ) (h : List ℕ) (g : 2 + 4 * c ≤ length h) where
       ext-getD 0 h' (masked low h) (a .long ∙ sym (length-over h 2 low))
       (λ i b. by-within 2 (4 * c) i
       (λ d. a .same i (inl d) ∙ sym (over-low h 2 low i d))
-      (λ d d'. sym (at-in h 2 low i d (omega arith) (omega (arith, a .long)) ∙ part-at h' 2 (4 * c) (i - 2) (omega arith) ∙ ap (λ (j : ℕ). getD h' j 0) (omega arith)))
+      (λ d d'. sym (over-at h 2 low i d (omega arith) (omega (arith, a .long)) ∙ part-at h' 2 (4 * c) (i - 2) (omega arith) ∙ ap (λ (j : ℕ). getD h' j 0) (omega arith)))
       (λ d. a .same i (inr d) ∙ sym (over-high h 2 low i (omega arith))))
 
   masked-alike : (low : List ℕ) → length low ≡ 4 * c → Alike c h (masked low h)

@@ -7,10 +7,10 @@ use Prim.Native.Nat.{ℕ, suc, _+_, _*_, _-_, _/_, _≤_, _<_}
 use native.Mathlib.Omega.{arith}
 use native.Mathlib.Numerals.{add-one}
 use lib.ListN.{length}
-use Rattle.wire.specs.Bytes.{over}
+use Rattle.wire.specs.Bytes.{over, isSome}
 use Rattle.home.specs.Capacities.{cells, classOf}
 use Rattle.home.specs.CapacitiesLaws.{cells-mono, class-below as class-most, class-holds}
-use Rattle.home.specs.Cases.{Holds, isSome}
+use Rattle.home.specs.Cases.{Holds}
 use Rattle.home.specs.Bytes.{cellAt, firstAt, manyAt, endAt}
 use Rattle.seats.specs.declared.Room.{Room}
 use Rattle.seats.specs.declared.Room.the-variants.{At, Nowhere}
@@ -78,7 +78,7 @@ module _ (h : List ℕ) (c e : ℕ) (bs : List ℕ) (k end f n : ℕ) (a : Placi
     -- what the call for a cell answers
     module _ (r : Room) (h' : List ℕ) (s : Answers h k f n end r h') where
       pub placing-none : r ≡ Nowhere → (false ≡ isSome (placedFrom h c e t bs)) × (h' ≡ Option·getD (placedFrom h c e t bs) h)
-      unfolding roomOf isSome
+      unfolding roomOf
       placing-none z = rw placed-is (by o (sym z ∙ s .room) (s .bytes))
         where
           by : (x : Option (List ℕ)) → Nowhere ≡ roomOf (isSome x) p → h' ≡ Option·getD x h
@@ -87,7 +87,7 @@ module _ (h : List ℕ) (c e : ℕ) (bs : List ℕ) (k end f n : ℕ) (a : Placi
           by (some x) u v = clash p (sym u)
 
       pub placing-puts : (q : ℕ) → r ≡ At q → RoomAt h' k q t bs × (true ≡ isSome (placedFrom h c e t bs)) × (withBlock h' k q t bs ≡ Option·getD (placedFrom h c e t bs) h)
-      unfolding roomOf isSome
+      unfolding roomOf
       placing-puts q z = rw placed-is (by o (sym z ∙ s .room) (s .bytes) left inside)
         where
           by : (x : Option (List ℕ)) → At q ≡ roomOf (isSome x) p → h' ≡ Option·getD x h → Holds (Untouched 0 h) x → Holds (λ (y : List ℕ). cellAt (p + cells k) ≤ length h) x

@@ -7,20 +7,19 @@ use Prim.Native.Nat.{ℕ, suc, _+_, _*_, _-_, _/_, _≤_, _<_}
 use native.Mathlib.Omega.{arith}
 use native.Mathlib.Numerals.{add-one}
 use lib.ListN.{length, take, length-append}
-use Rattle.wire.specs.Bytes.{Bytes}
+use Rattle.wire.specs.Bytes.{Bytes, isSome}
 use Rattle.home.specs.Capacities.{cells, classOf}
 use Rattle.home.specs.CapacitiesLaws.{cells-mono, cells-pos, class-below as class-most}
 use Rattle.home.specs.Zones.{Block, Zone, blocks, added, endOf, shift, place}
 use Rattle.home.specs.PermLaws.{plength}
 use Rattle.home.specs.Layout.{Sits, Fit, Valid}
-use Rattle.home.specs.Cases.{Holds, isSome, map-twice}
+use Rattle.home.specs.Cases.{Holds, map-twice}
 use Rattle.home.specs.FindLaws.{Lacks, lacks-has}
 use Rattle.home.specs.PlaceLaws.{place-valid}
 use Rattle.home.specs.Bytes.{encode, decode, firstAt, manyAt, blockBytes, endAt}
 use Rattle.home.specs.Sound.{pagesOf}
-use Rattle.home.specs.LookupTurns.{sound-ordered}
-use Rattle.moves.specs.HomeLaws.{Loose}
-use Rattle.moves.specs.Stored.{Stored, endAfter, settled}
+use Rattle.home.specs.LookupLoopLaws.{sound-ordered}
+use Rattle.moves.specs.Stored.{Stored, endAfter, settled, Loose}
 use Rattle.moves.specs.LooseLaws.{stored-long, fit-lower, fit-above, blocks-append, loose-joined, Shifted, shift-fit}
 use Rattle.moves.specs.AtLaws.{at-zone, take-here, joined, long-next}
 use Rattle.seats.specs.Seat.{cellFor, endFrom, raised, seated, Stacked}
@@ -181,7 +180,7 @@ sound-start h t bs a = sound-from h t bs a 0 0 (omega arith) refl
 
 pub placed-sound : (h : List ℕ) (t : ℕ) (bs : List ℕ) → Placeable h t bs → t < 4294967296 → Bytes bs → (r : Bool) (h' : List ℕ)
     → r ≡ isSome (placedFrom h 0 0 t bs) → h' ≡ Option·getD (placedFrom h 0 0 t bs) h → (r ≡ isSome (placedIn h t bs)) × (h' ≡ settled (pagesOf h) h (placedIn h t bs))
-unfolding endAfter isSome settled
+unfolding endAfter settled
 placed-sound h t bs a g w r h' p q =
     let m : placedFrom h 0 0 t bs ≡ Option·map (encode (pagesOf h)) (placedIn h t bs) = from-sound h t bs (record { able = a; tag = g; bytes = w; class = refl }) 0 0 (omega arith) refl in
     by (placedIn h t bs) (p ∙ ap isSome m) (q ∙ ap (λ (x : Option (List ℕ)). Option·getD x h) m)

@@ -10,8 +10,8 @@ use Rattle.home.specs.Capacities.{cells}
 use Rattle.home.specs.Zones.{Block, Zone, empty, from, zone, blocks, hasTag, removed}
 use Rattle.home.specs.Bytes.{encode, cellAt}
 use Rattle.moves.specs.Moves.{moved}
-use Rattle.moves.specs.HomeLaws.{Loose}
 use Rattle.moves.specs.Close.{zoneOf}
+use Rattle.moves.specs.Stored.{Loose}
 
 -- the bytes of a layout zs that is valid but for its gaps, in which tag t has a block of class c at cell p
 pub record Known (R : ℕ) (h : List ℕ) (zs : List Zone) (t c p : ℕ) : Type 0 where

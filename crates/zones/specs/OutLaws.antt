@@ -24,8 +24,8 @@ use Rattle.home.specs.AreaLaws.{fit-le}
 use Rattle.home.specs.Lookup.{Ordered, indexOf}
 use Rattle.moves.specs.Moves.{Movable, zoned, moved, unentered}
 use Rattle.moves.specs.SpotLaws.{spot}
-use Rattle.moves.specs.HomeLaws.{Loose, movable-without}
-use Rattle.moves.specs.Stored.{endAfter, Stored}
+use Rattle.moves.specs.HomeLaws.{movable-without}
+use Rattle.moves.specs.Stored.{endAfter, Stored, Loose}
 use Rattle.seats.specs.Seat.{endFrom}
 use Rattle.seats.specs.LayoutLaws.{stored-ends}
 use Rattle.moves.specs.AtLaws.{take-here, take-next, drop-next, zone-here, end-next}

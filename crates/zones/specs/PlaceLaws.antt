@@ -7,7 +7,7 @@ use native.Mathlib.Numerals.{add-one}
 use borrow.Author.Tests.{ne-eqb}
 use lib.ListN.{length, replicate}
 use Rattle.wire.specs.Bytes.{over, get16, bytes16, bytes32, Bytes}
-use Rattle.wire.specs.BytesLaws.{over-append}
+use Rattle.wire.specs.BytesLaws.{over-next}
 use Rattle.records.specs.declared.Record.{Record}
 use Rattle.records.specs.Records.{encode as recordBytes, decode as recordsIn}
 use Rattle.records.specs.Cells.{length-records}
@@ -25,19 +25,15 @@ use Rattle.home.specs.Bytes.{Entry, entries, dictionary, area, encode, cellAt, 
 use Rattle.home.specs.BytesLaws.{records-fit}
 use Rattle.moves.specs.Moves.{zoned, entered}
 use Rattle.moves.specs.StateLaws.{state, state-tags, state-ordered, state-written}
-use Rattle.moves.specs.HomeLaws.{Loose, length-zones, fine, encode-state}
+use Rattle.moves.specs.HomeLaws.{length-zones, fine, encode-state}
 use Rattle.moves.specs.StepLaws.{firstOf, manyOf, class-below, home-placed}
-use Rattle.moves.specs.Stored.{endAfter}
+use Rattle.moves.specs.Stored.{endAfter, Loose}
 use Rattle.moves.specs.LooseLaws.{zone-at, length-loose, fit-above}
 use Rattle.moves.specs.AtLaws.{zone-here}
 use Rattle.seats.specs.Seat.{firstWith}
 use Rattle.zones.specs.Place.{blockOf, RoomAt, withBlock, blockIn, Placeable}
 
 -- ---- a whole block
-
--- bytes written behind others
-over-next : (l : List ℕ) (at k : ℕ) (bs cs : List ℕ) → k ≡ at + length bs → over (over l at bs) k cs ≡ over l at (bs ++ cs)
-over-next l at k bs cs e = ap (λ (j : ℕ). over (over l at bs) j cs) e ∙ over-append l at bs cs
 
 pub block-written : (h : List ℕ) (at c t k : ℕ) (bs : List ℕ) → k ≡ cells c
     → over (over (over (over (over h at (bytes32 t)) (at + 4) (bytes16 (length bs / 8))) (at + 6) (bytes16 0)) (at + 8) bs) (at + 8 + length bs) (replicate (8 * k - 8 - length bs) 0) ≡ over h at (blockOf c t bs)

@@ -13,8 +13,7 @@ use Rattle.home.specs.Sound.{sound, Sound, pagesOf}
 use Rattle.home.specs.AreaLaws.{laid-fit}
 use Rattle.home.specs.SoundLaws.{t-sound, sound-pages, sound-zones, encode-decode}
 use Rattle.home.specs.EntriesLaws.{tag-count}
-use Rattle.moves.specs.HomeLaws.{Loose}
-use Rattle.moves.specs.Stored.{Stored}
+use Rattle.moves.specs.Stored.{Stored, Loose}
 
 pub valid-loose : (R : ℕ) (zs : List Zone) → Valid (8 * R) zs → Loose R zs
 valid-loose R zs v = record { classes = v .classes; fit = laid-fit (8 * R) 0 0 zs (v .laid); distinct = v .distinct; few = v .few }

@@ -11,7 +11,7 @@ ghost use Prim.Native.Nat.{_≤_};
 ghost use lib.ListN.{take};
 ghost use Rattle.home.specs.Capacities.{cells as sizeOf};
 ghost use Rattle.home.specs.Zones.{total as totalOf};
-ghost use Rattle.home.specs.Cases.{isSome};
+ghost use Rattle.wire.specs.Bytes.{isSome};
 ghost use Rattle.home.specs.Bytes.{encode, decode};
 ghost use Rattle.home.specs.Sound.{pagesOf};
 ghost use Rattle.moves.specs.Stored.{Stored, settled};

@@ -13,12 +13,11 @@ ghost use mathlib.Core.Path.{_≡_};
 ghost use mathlib.Core.Option.{Option·getD};
 ghost use Prim.Native.Nat.{_+_, _*_, _≤_, _<_};
 ghost use lib.ListN.{length};
-ghost use Rattle.wire.specs.Bytes.{over};
+ghost use Rattle.wire.specs.Bytes.{over, isSome};
 ghost use Rattle.home.specs.Capacities.{cells as sizeOf};
 ghost use Rattle.home.specs.Bytes.{cellAt};
 ghost use Rattle.home.specs.Sound.{pagesOf};
 ghost use Rattle.moves.specs.Stored.{settled};
-ghost use Rattle.home.specs.Cases.{isSome};
 ghost use Rattle.zones.specs.Place.{blockOf, RoomAt, withBlock, From, placedFrom, placedIn, Placeable};
 
 // Writes a whole block of class c at cell p: its header, its list, and zeros to its end.

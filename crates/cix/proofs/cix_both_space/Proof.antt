@@ -4,8 +4,8 @@ use borrow.Author.Needs.{needs}
 use Rattle.cix.proofs.cix_both_space.Statement.{statement}
 use Rattle.cix.proofs.cix_both_space.Tie as tie
 
-merge-space-requires : tie.Need-merge-space-requires
-merge-space-requires c κs = search needs
+merge-requires : tie.Need-merge-requires
+merge-requires c κs = search needs
 
 of-answer-requires : tie.Need-of-answer-requires
 of-answer-requires c κs = search needs
@@ -14,8 +14,8 @@ same-length : tie.Need-same-length
 same-length c = search needs
 
 returns : tie.Need-returns
-returns c = (c .of-answer .ensures ∙ ap ofAnswer (c .before .before .before .merge-space .ensures .0), c .before .before .before .merge-space .ensures .1)
+returns c = (c .of-answer .ensures ∙ ap ofAnswer (c .before .before .before .merge .ensures .0), c .before .before .before .merge .ensures .1)
 
 pub cix-both-space-spec : {M : Type 1} → statement M
 cix-both-space-spec =
-    tie.close (tie.spec merge-space-requires of-answer-requires same-length returns)
+    tie.close (tie.spec merge-requires of-answer-requires same-length returns)

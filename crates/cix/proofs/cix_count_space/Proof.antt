@@ -4,14 +4,14 @@ use borrow.Author.Needs.{needs}
 use Rattle.cix.proofs.cix_count_space.Statement.{statement}
 use Rattle.cix.proofs.cix_count_space.Tie as tie
 
-count-space-requires : tie.Need-count-space-requires
-count-space-requires c κs = search needs
+count-requires : tie.Need-count-requires
+count-requires c κs = search needs
 
 of-answer-requires : tie.Need-of-answer-requires
 of-answer-requires c κs = search needs
 
 returns : tie.Need-returns
-returns c = c .of-answer .ensures ∙ ap ofAnswer (c .before .count-space .ensures)
+returns c = c .of-answer .ensures ∙ ap ofAnswer (c .before .count .ensures)
 
 pub cix-count-space-spec : {M : Type 1} → statement M
-cix-count-space-spec = tie.close (tie.spec count-space-requires of-answer-requires returns)
+cix-count-space-spec = tie.close (tie.spec count-requires of-answer-requires returns)

@@ -4,8 +4,8 @@ use borrow.Author.Needs.{needs}
 use Rattle.cix.proofs.cix_either_image.Statement.{statement}
 use Rattle.cix.proofs.cix_either_image.Tie as tie
 
-merge-image-requires : tie.Need-merge-image-requires
-merge-image-requires c κs = search needs
+merge-requires : tie.Need-merge-requires
+merge-requires c κs = search needs
 
 of-answer-requires : tie.Need-of-answer-requires
 of-answer-requires c κs = search needs
@@ -14,8 +14,8 @@ same-length : tie.Need-same-length
 same-length c = search needs
 
 returns : tie.Need-returns
-returns c = (c .of-answer .ensures ∙ ap ofAnswer (c .before .before .before .merge-image .ensures .0), c .before .before .before .merge-image .ensures .1)
+returns c = (c .of-answer .ensures ∙ ap ofAnswer (c .before .before .before .merge .ensures .0), c .before .before .before .merge .ensures .1)
 
 pub cix-either-image-spec : {M : Type 1} → statement M
 cix-either-image-spec =
-    tie.close (tie.spec merge-image-requires of-answer-requires same-length returns)
+    tie.close (tie.spec merge-requires of-answer-requires same-length returns)

@@ -39,7 +39,7 @@ same-length-2 c = search needs
 returns-2 : tie.Need-returns-2
 returns-2 c =
     let a = absent-held _ (c .enum-told .given .0 .0) _ (sym (c .enum-told .given .1) ∙ c .before .before .search-at .ensures ∙ ap (placeOf (c .before .before .before .before .before .args .key)) (listed-records _ _ _ _ (c .before .before .before .before .before .pre))) in
-    delete-none _ _ _ _ (c .before .before .before .before .before .pre) _ (a .0)
+    delete-none _ _ _ (a .0)
 
 pub delete-known-spec : {M : Type 1} → statement M
 delete-known-spec =

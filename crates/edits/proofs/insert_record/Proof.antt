@@ -6,7 +6,6 @@ use borrow.Author.Tests.{not-true, not-false}
 use Rattle.records.specs.Records.{insert}
 use Rattle.home.specs.Capacities.{classOf}
 use Rattle.home.specs.CapacitiesLaws.{class-below}
-use Rattle.home.specs.Cases.{isSome}
 use Rattle.home.specs.Layout.{change}
 use Rattle.home.specs.Bytes.{decode}
 use Rattle.home.specs.Sound.{pagesOf, listOf}
@@ -16,6 +15,7 @@ use Rattle.lists.specs.RecordLaws.{placed-under, in-inside, in-here}
 use Rattle.edits.specs.Edits.{fitsAfter}
 use Rattle.edits.specs.EditsLaws.{put-full, put-done, put-no-room, put-room, put-keeps}
 use borrow.Author.Needs.{needs}
+use Rattle.wire.specs.Bytes.{isSome}
 use Rattle.edits.proofs.insert_record.Statement.{statement}
 use Rattle.edits.proofs.insert_record.Tie as tie
 use Rattle.edits.proofs.insert_record.Reads as reads
@@ -40,9 +40,8 @@ leaves : (c : lts.Else2 claims reads.Pre reads.Post) → classOf (c .before .bef
 leaves c e = c .if2 .left (c .before .class-of2 .ensures ∙ e ∙ sym (c .before .before .class-of .ensures))
 
 -- whether there is room then
-room : (c : lts.After-room-after claims reads.Pre reads.Post)
-    → c .room-after .result ≡ isSome (change (8 * pagesOf (c .before .before .before .before .before .before .before .args .home .now)) (c .before .before .before .before .before .before .before .args .tag) (insert (c .before .before .before .before .before .before .before .args .r) (listOf (c .before .before .before .before .before .before .before .args .home .now) (c .before .before .before .before .before .before .before .args .tag))) (decode (c .before .before .before .before .before .before .before .args .home .now)))
-room c = c .room-after .ensures ∙ ap₂ (λ (x y : ℕ). fitsAfter (c .before .before .before .before .before .before .before .args .home .now) x y) (c .before .before .before .before .class-of .ensures) (c .before .before .before .class-of2 .ensures) ∙ put-room _ _ _ _ _ _ (c .before .before .before .before .before .before .before .pre) (short (c .before .before .before .before .before))
+room : (c : lts.After-room-after claims reads.Pre reads.Post) → c .room-after .result ≡ fitsAfter (c .before .before .before .before .before .before .before .args .home .now) (classOf (c .before .before .before .before .before .before .before .args .n)) (classOf (c .before .before .before .before .before .before .before .args .n + 1))
+room c = c .room-after .ensures ∙ ap₂ (λ (x y : ℕ). fitsAfter (c .before .before .before .before .before .before .before .args .home .now) x y) (c .before .before .before .before .class-of .ensures) (c .before .before .before .class-of2 .ensures)
 
 returns : tie.Need-returns
 returns c = put-full _ _ _ _ _ _ (c .before .before .pre) (c .if1 .taken)
@@ -89,7 +88,7 @@ slice-aggregate-insert-moving c = search needs
 insert-moving-requires : tie.Need-insert-moving-requires
 insert-moving-requires c κs = (
   (c .before .before .before .before .before .before .before .before .before .before .pre, short (c .before .before .before .before .before .before .before .before), leaves (c .before .before .before .before .before), omega (arith, short (c .before .before .before .before .before .before .before .before))),
-  sym (room (c .before .before .before)) ∙ not-false _ (c .before .before .if3 .left),
+  sym (put-room _ _ _ _ _ _ (c .before .before .before .before .before .before .before .before .before .before .pre) (short (c .before .before .before .before .before .before .before .before))) ∙ sym (room (c .before .before .before)) ∙ not-false _ (c .before .before .if3 .left),
 )
 
 add-t11 : tie.Need-add-t11

@@ -1,31 +1,23 @@
 use mathlib.Core.Path.{sym, _∙_}
-use Rattle.home.specs.LookupTurns.{sound-ordered}
-use Rattle.lists.specs.ListedLaws.{entry-under, cell-inside, entry-listed}
 use Rattle.edits.specs.EditsLaws.{absent-new}
 use borrow.Author.Needs.{needs}
 use Rattle.edits.proofs.put.Statement.{statement}
 use Rattle.edits.proofs.put.Tie as tie
 
-find-requires : tie.Need-find-requires
-find-requires c κs = sound-ordered _ (c .before .before .pre)
+block-of-requires : tie.Need-block-of-requires
+block-of-requires c κs = search needs
 
-enum-known-i : tie.Need-enum-known-i
-enum-known-i c = search needs
-
-cell-of-requires : tie.Need-cell-of-requires
-cell-of-requires c κs = entry-under _ _ _ (c .before .before .before .before .before .before .before .pre) (sym (c .before .before .before .before .find .ensures) ∙ c .before .before .i .given .1)
-
-count-of-requires : tie.Need-count-of-requires
-count-of-requires c κs = cell-inside _ _ _ (c .before .before .before .before .before .before .before .before .before .pre) (sym (c .before .before .before .before .before .before .find .ensures) ∙ c .before .before .before .before .i .given .1) _ (c .before .cell-of .ensures .0)
+enum-known-p : tie.Need-enum-known-p
+enum-known-p c = search needs
 
 put-known-requires : tie.Need-put-known-requires
-put-known-requires c κs = entry-listed _ _ _ (c .before .before .before .before .before .before .before .before .before .before .before .pre) (sym (c .before .before .before .before .before .before .before .before .find .ensures) ∙ c .before .before .before .before .before .before .i .given .1) _ _ (c .before .before .before .cell-of .ensures .0) (c .before .count-of .ensures .0)
+put-known-requires c κs = record { sound = c .before .before .before .before .before .before .before .pre; block = sym (c .before .before .before .before .block-of .ensures) ∙ c .before .before .p .given .1 }
 
 enum-told : tie.Need-enum-told
 enum-told c = search needs
 
 put-new-requires : tie.Need-put-new-requires
-put-new-requires c κs = ((c .before .before .before .before .before .before .pre), (absent-new _ _ _ (c .before .before .before .before .before .before .pre) (sym (c .before .before .before .find .ensures) ∙ c .before .enum-told .given .1)))
+put-new-requires c κs = (c .before .before .before .before .before .before .pre, (absent-new _ _ (c .before .before .before .before .before .before .pre) (sym (c .before .before .before .block-of .ensures) ∙ c .before .enum-told .given .1)))
 
 same-length : tie.Need-same-length
 same-length c = search needs
@@ -43,10 +35,8 @@ pub put-spec : {M : Type 1} → statement M
 put-spec =
     tie.close
     (tie.spec
-    find-requires
-    enum-known-i
-    cell-of-requires
-    count-of-requires
+    block-of-requires
+    enum-known-p
     put-known-requires
     enum-told
     put-new-requires

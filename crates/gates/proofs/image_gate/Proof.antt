@@ -1,4 +1,5 @@
 use mathlib.Core.Path.{sym, _∙_}
+use Rattle.log.specs.HeadLaws.{clear-head}
 use Rattle.gates.specs.GatesLaws.{gate-bad, gate-committed, gate-spoiled, gate-sound, gate-unsound}
 use borrow.Author.Needs.{needs}
 use Rattle.gates.proofs.image_gate.Statement.{statement}
@@ -13,8 +14,8 @@ enum-told c = search needs
 enum-told-2 : tie.Need-enum-told-2
 enum-told-2 c = search needs
 
-home-requires : tie.Need-home-requires
-home-requires c κs = search needs
+home-behind-requires : tie.Need-home-behind-requires
+home-behind-requires c κs = clear-head _ (sym (c .before .before .read-head .ensures) ∙ c .enum-told2 .given .1) .0
 
 sound-requires : tie.Need-sound-requires
 sound-requires c κs = search needs
@@ -29,10 +30,10 @@ returns : tie.Need-returns
 returns c = gate-bad (c .before .before .before .before .args .image .now) (sym (c .before .before .read-head .ensures) ∙ c .enum-told .given .1)
 
 returns-2 : tie.Need-returns-2
-returns-2 c = gate-sound (c .before .before .before .before .before .before .before .args .image .now) _ (sym (c .before .before .before .before .before .read-head .ensures) ∙ c .before .before .before .enum-told2 .given .1) (c .before .before .home .ensures) (sym (c .before .sound .ensures) ∙ c .if1 .taken)
+returns-2 c = gate-sound (c .before .before .before .before .before .before .before .args .image .now) _ (sym (c .before .before .before .before .before .read-head .ensures) ∙ c .before .before .before .enum-told2 .given .1) (c .before .before .home-behind .ensures .0) (sym (c .before .sound .ensures) ∙ c .if1 .taken)
 
 returns-3 : tie.Need-returns-3
-returns-3 c = gate-unsound (c .before .before .before .before .before .before .before .args .image .now) _ (sym (c .before .before .before .before .before .read-head .ensures) ∙ c .before .before .before .enum-told2 .given .1) (c .before .before .home .ensures) (sym (c .before .sound .ensures) ∙ c .if1 .left)
+returns-3 c = gate-unsound (c .before .before .before .before .before .before .before .args .image .now) _ (sym (c .before .before .before .before .before .read-head .ensures) ∙ c .before .before .before .enum-told2 .given .1) (c .before .before .home-behind .ensures .0) (sym (c .before .sound .ensures) ∙ c .if1 .left)
 
 returns-4 : tie.Need-returns-4
 returns-4 c = gate-committed (c .before .before .before .before .args .image .now) (sym (c .before .before .read-head .ensures) ∙ c .enum-told3 .given .1)
@@ -47,7 +48,7 @@ image-gate-spec =
     read-head-requires
     enum-told
     enum-told-2
-    home-requires
+    home-behind-requires
     sound-requires
     enum-told-3
     enum-told-4

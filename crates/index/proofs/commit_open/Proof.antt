@@ -32,8 +32,7 @@ same-length-2 c = search needs
 returns-2 : tie.Need-returns-2
 returns-2 c =
     let a = c .before .before .before .before .before .before .before .before .before .before .before .args in
-    let e = eqb-true (length (a .space .now)) (length (home (a .image .now))) (sym (c .before .before .before .before .before .before .before .as-long .ensures) ∙ not-false _ (c .before .before .before .before .before .before .if1 .left)) in
-    rw (commit-passes (a .image .now) (a .space .now) (c .before .before .before .before .before .before .before .before .before .before .before .pre) e (sym (c .before .before .before .before .before .sound .ensures) ∙ c .before .before .before .before .if2 .taken)) at (c .before .before .commit .ensures)
+    rw (commit-passes (a .image .now) (a .space .now) (c .before .before .before .before .before .before .before .before .before .before .before .pre) (sym (c .before .before .before .before .before .sound .ensures) ∙ c .before .before .before .before .if2 .taken)) at (c .before .before .commit .ensures)
 
 same-length-3 : tie.Need-same-length-3
 same-length-3 c = search needs

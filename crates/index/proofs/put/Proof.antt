@@ -1,19 +1,19 @@
 use mathlib.Core.Path.{sym, _∙_}
-use Rattle.gates.specs.Gates.{spaceGate}
-use Rattle.gates.specs.GatesLaws.{space-open, gated-open, gated-shut}
-use Rattle.index.specs.Edits.{putAnswer, putSpace}
+use Rattle.wire.specs.RulesLaws.{gate-opens, gate-refuses}
+use Rattle.gates.specs.GatesLaws.{gate-open, gate-refused, space-open}
+use Rattle.index.specs.Calls.{putCall}
 use borrow.Author.Needs.{needs}
 use Rattle.index.proofs.put.Statement.{statement}
 use Rattle.index.proofs.put.Tie as tie
 
-space-gate-requires : tie.Need-space-gate-requires
-space-gate-requires c κs = search needs
+gate-requires : tie.Need-gate-requires
+gate-requires c κs = search needs
 
 enum-told : tie.Need-enum-told
 enum-told c = search needs
 
 put-requires : tie.Need-put-requires
-put-requires c κs = space-open _ (sym (c .before .before .before .space-gate .ensures) ∙ c .before .enum-told .given .1)
+put-requires c κs = space-open _ (gate-open _ (sym (c .before .before .before .gate .ensures) ∙ c .before .enum-told .given .1))
 
 enum-known-n : tie.Need-enum-known-n
 enum-known-n c = search needs
@@ -22,21 +22,21 @@ same-length : tie.Need-same-length
 same-length c = search needs
 
 returns : tie.Need-returns
-unfolding putAnswer putSpace
-returns c = gated-open (spaceGate (c .before .before .before .before .before .before .before .before .before .args .space .now)) _ _ _ _ (c .before .before .before .before .before .before .before .before .before .args .space .now) (sym (c .before .before .before .before .before .before .space-gate .ensures) ∙ c .before .before .before .before .enum-told .given .1) (c .before .before .put .ensures .0) (c .before .before .put .ensures .1)
+unfolding putCall
+returns c = gate-opens _ _ (c .before .before .before .before .before .before .before .before .before .args .space .now) _ _ _ (gate-open _ (sym (c .before .before .before .before .before .before .gate .ensures) ∙ c .before .before .before .before .enum-told .given .1)) (c .before .before .put .ensures)
 
 same-length-2 : tie.Need-same-length-2
 same-length-2 c = search needs
 
 returns-2 : tie.Need-returns-2
-unfolding putAnswer putSpace
-returns-2 c = gated-shut (spaceGate (c .before .before .before .before .before .before .args .space .now)) _ _ _ (c .before .before .before .before .before .before .args .space .now) (sym (c .before .before .before .space-gate .ensures) ∙ c .before .n .given .1)
+unfolding putCall
+returns-2 c = gate-refuses _ _ (c .before .before .before .before .before .before .args .space .now) _ _ (gate-refused _ _ (sym (c .before .before .before .gate .ensures) ∙ c .before .n .given .1))
 
 pub put-spec : {M : Type 1} → statement M
 put-spec =
     tie.close
     (tie.spec
-    space-gate-requires
+    gate-requires
     enum-told
     put-requires
     enum-known-n

@@ -2,7 +2,7 @@ use native.Mathlib.Omega.{arith}
 use mathlib.Core.Path.{_≡_, sym, _∙_}
 use borrow.Author.Tests.{not-true, not-false}
 use Rattle.records.specs.Records.{keeps, tally}
-use Rattle.records.specs.Turns.{emit-none, emit-one, tally-one}
+use Rattle.records.specs.LoopLaws.{emit-none, emit-one, tally-one}
 use borrow.Author.Needs.{needs}
 use Rattle.merges.proofs.emit.Statement.{statement}
 use Rattle.merges.proofs.emit.Tie as tie

@@ -1,5 +1,5 @@
 use native.Mathlib.Omega.{arith}
-use Rattle.reads.specs.MergesLaws.{fitted-not, fitted-all}
+use Rattle.reads.specs.MergesLaws.{written-not, written-all}
 use Rattle.records.specs.Records.{decode, merge}
 use borrow.Author.Needs.{needs}
 use Rattle.reads.proofs.merge_lists.Statement.{statement}
@@ -11,7 +11,7 @@ merge-count-requires c κs = search needs
 returns : tie.Need-returns
 returns c =
     let a = c .before .before .before .before .before .args in
-    fitted-not (merge (a .m) (decode (a .xs .now)) (decode (a .ys .now))) (a .out .now) (omega arith)
+    written-not (merge (a .m) (decode (a .xs .now)) (decode (a .ys .now))) (a .out .now) (omega arith)
 
 merge-into-requires : tie.Need-merge-into-requires
 merge-into-requires c κs = search needs
@@ -22,7 +22,7 @@ same-length c = search needs
 returns-2 : tie.Need-returns-2
 returns-2 c =
     let a = c .before .before .before .before .before .before .before .before .before .args in
-    fitted-all (merge (a .m) (decode (a .xs .now)) (decode (a .ys .now))) (a .out .now) _ _ (omega arith) (c .before .before .merge-into .ensures .0) (c .before .before .merge-into .ensures .1)
+    written-all (merge (a .m) (decode (a .xs .now)) (decode (a .ys .now))) (a .out .now) _ _ (omega arith) (c .before .before .merge-into .ensures .0) (c .before .before .merge-into .ensures .1)
 
 pub merge-lists-spec : {M : Type 1} → statement M
 merge-lists-spec =

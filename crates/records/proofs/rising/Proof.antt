@@ -5,7 +5,7 @@ use mathlib.Core.Bool.{_&&_}
 use lib.ListN.{length}
 use lib.Dec.{ltb}
 use Rattle.records.specs.Records.{risingFrom, decode, rest}
-use Rattle.records.specs.Turns.{rising-few, rising-first, rising-turns, rising-two-end, rising-one-end}
+use Rattle.records.specs.LoopLaws.{rising-few, rising-first, rising-turns, rising-two-end, rising-one-end}
 use borrow.Author.Needs.{needs}
 use Rattle.records.proofs.rising.Statement.{statement}
 use Rattle.records.proofs.rising.Tie as tie

@@ -1,10 +1,10 @@
-use Rattle.records.specs.Turns.{search-in}
+use Rattle.records.specs.LoopLaws.{search-in}
 use native.Mathlib.Omega.{arith}
 use mathlib.Core.Path.{_≡_, refl, _∙_}
 use Prim.Native.Nat.{_+_, _-_, _/_, _≤_}
 use lib.ListN.{length}
 use Rattle.records.specs.Records.{rank, decode}
-use Rattle.records.specs.Turns.{search-up, search-down, search-found, search-absent, search-end}
+use Rattle.records.specs.LoopLaws.{search-up, search-down, search-found, search-absent, search-end}
 use borrow.Author.Needs.{needs}
 use Rattle.records.proofs.search.Statement.{statement}
 use Rattle.records.proofs.search.Tie as tie

@@ -2,7 +2,7 @@ use mathlib.Core.Path.{sym, _∙_}
 use native.Mathlib.Omega.{arith}
 use borrow.Author.Tests.{not-true, not-false}
 use Rattle.home.specs.CapacitiesLaws.{cells-is, cells-pos, cells-most}
-use Rattle.sound.specs.CheckTurns.{block-few, block-much, block-head, block-order, block-rest}
+use Rattle.sound.specs.CheckLoopLaws.{block-few, block-much, block-head, block-order, block-rest}
 use borrow.Author.Needs.{needs}
 use Rattle.sound.proofs.block_fine.Statement.{statement}
 use Rattle.sound.proofs.block_fine.Tie as tie

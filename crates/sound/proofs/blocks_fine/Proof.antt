@@ -7,7 +7,7 @@ use Rattle.home.specs.Capacities.{capacity, under, cells}
 use Rattle.home.specs.CapacitiesLaws.{cells-is}
 use Rattle.home.specs.Bytes.{cellAt}
 use Rattle.sound.specs.Checks.{blocksFine}
-use Rattle.sound.specs.CheckTurns.{times-turn, blocks-turn, blocks-stop, blocks-end}
+use Rattle.sound.specs.CheckLoopLaws.{times-turn, blocks-turn, blocks-stop, blocks-end}
 use borrow.Author.Needs.{needs}
 use Rattle.sound.proofs.blocks_fine.Statement.{statement}
 use Rattle.sound.proofs.blocks_fine.Tie as tie

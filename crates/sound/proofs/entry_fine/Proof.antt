@@ -2,7 +2,7 @@ use mathlib.Core.Path.{refl, sym, ap, _∙_}
 use native.Mathlib.Omega.{arith}
 use borrow.Author.Tests.{not-true, not-false}
 use lib.Dec.{eqb}
-use Rattle.sound.specs.CheckTurns.{entry-low, entry-astray, entry-rest, leads-inside}
+use Rattle.sound.specs.CheckLoopLaws.{entry-low, entry-astray, entry-rest, leads-inside}
 use borrow.Author.Needs.{needs}
 use Rattle.home.specs.Bytes.{placeAt}
 use Rattle.sound.proofs.entry_fine.Statement.{statement}

@@ -3,7 +3,7 @@ use native.Mathlib.Omega.{arith}
 use Rattle.home.specs.Bytes.{countAt}
 use Rattle.home.specs.CapacitiesLaws.{class-below}
 use Rattle.home.specs.EndLaws.{zone-fits}
-use Rattle.sound.specs.CheckTurns.{leads-beyond, leads-much, leads-early, leads-late, leads-there}
+use Rattle.sound.specs.CheckLoopLaws.{leads-beyond, leads-much, leads-early, leads-late, leads-there}
 use borrow.Author.Needs.{needs}
 use Rattle.sound.proofs.leads_at.Statement.{statement}
 use Rattle.sound.proofs.leads_at.Tie as tie

@@ -1,5 +1,5 @@
 use mathlib.Core.Path.{_∙_}
-use Rattle.sound.specs.CheckTurns.{rising-part}
+use Rattle.sound.specs.CheckLoopLaws.{rising-part}
 use borrow.Author.Needs.{needs}
 use Rattle.sound.proofs.rising.Statement.{statement}
 use Rattle.sound.proofs.rising.Tie as tie

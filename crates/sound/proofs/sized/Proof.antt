@@ -1,4 +1,4 @@
-use Rattle.sound.specs.CheckTurns.{sized-short, sized-rest}
+use Rattle.sound.specs.CheckLoopLaws.{sized-short, sized-rest}
 use borrow.Author.Needs.{needs}
 use Rattle.sound.proofs.sized.Statement.{statement}
 use Rattle.sound.proofs.sized.Tie as tie

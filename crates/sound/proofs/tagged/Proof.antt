@@ -4,7 +4,7 @@ use borrow.Author.Tests.{not-true, not-false}
 use Rattle.wire.specs.Cases.{both}
 use Rattle.home.specs.SoundLaws.{t-sized}
 use Rattle.sound.specs.ChecksLaws.{checked-is}
-use Rattle.sound.specs.CheckTurns.{checked-count, checked-gap, checked-zones, checked-tags, checked-rest}
+use Rattle.sound.specs.CheckLoopLaws.{checked-count, checked-gap, checked-zones, checked-tags, checked-rest}
 use borrow.Author.Needs.{needs}
 use Rattle.sound.proofs.tagged.Statement.{statement}
 use Rattle.sound.proofs.tagged.Tie as tie

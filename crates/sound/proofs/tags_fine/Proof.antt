@@ -4,7 +4,7 @@ use native.Mathlib.Omega.{arith}
 use borrow.Author.Tests.{not-true, not-false}
 use Prim.Native.Nat.{_-_, _≤_}
 use Rattle.sound.specs.Checks.{tagsFine}
-use Rattle.sound.specs.CheckTurns.{tags-turn, tags-stop, tags-end}
+use Rattle.sound.specs.CheckLoopLaws.{tags-turn, tags-stop, tags-end}
 use borrow.Author.Needs.{needs}
 use Rattle.sound.proofs.tags_fine.Statement.{statement}
 use Rattle.sound.proofs.tags_fine.Tie as tie

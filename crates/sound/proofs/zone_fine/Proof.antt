@@ -5,7 +5,7 @@ use mathlib.Core.Path.{refl, sym, _∙_}
 use Rattle.home.specs.Capacities.{cells}
 use native.Mathlib.Omega.{arith}
 use borrow.Author.Tests.{not-true, not-false}
-use Rattle.sound.specs.CheckTurns.{zone-empty, zone-astray, zone-lies, zone-gap, zone-rest}
+use Rattle.sound.specs.CheckLoopLaws.{zone-empty, zone-astray, zone-lies, zone-gap, zone-rest}
 use borrow.Author.Needs.{needs}
 use Rattle.sound.proofs.zone_fine.Statement.{statement}
 use Rattle.sound.proofs.zone_fine.Tie as tie

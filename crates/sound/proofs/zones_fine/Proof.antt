@@ -5,7 +5,7 @@ use borrow.Author.Tests.{not-true, not-false}
 use Prim.Native.Nat.{_+_, _*_, _-_, _≤_}
 use lib.Dec.{eqb}
 use Rattle.sound.specs.Checks.{zonesFine, manyIn}
-use Rattle.sound.specs.CheckTurns.{end-inside, zones-turn, zones-stop, zones-end, many-turn, many-end}
+use Rattle.sound.specs.CheckLoopLaws.{end-inside, zones-turn, zones-stop, zones-end, many-turn, many-end}
 use borrow.Author.Needs.{needs}
 use Rattle.sound.proofs.zones_fine.Statement.{statement}
 use Rattle.sound.proofs.zones_fine.Tie as tie

@@ -1,4 +1,4 @@
-use Rattle.stream.specs.Turns.{kept-line}
+use Rattle.stream.specs.LoopLaws.{kept-line}
 use borrow.Author.Needs.{needs}
 use Rattle.stream.proofs.answer_kept.Statement.{statement}
 use Rattle.stream.proofs.answer_kept.Tie as tie

@@ -1,5 +1,5 @@
 use native.Mathlib.Omega.{arith}
-use Rattle.stream.specs.Turns.{feeds-start}
+use Rattle.stream.specs.LoopLaws.{feeds-start}
 use borrow.Author.Needs.{needs}
 use Rattle.stream.proofs.feed.Statement.{statement}
 use Rattle.stream.proofs.feed.Tie as tie

@@ -1,5 +1,5 @@
 use native.Mathlib.Omega.{arith}
-use Rattle.stream.specs.Turns.{keep-all, keep-some}
+use Rattle.stream.specs.LoopLaws.{keep-all, keep-some}
 use borrow.Author.Needs.{needs}
 use Rattle.stream.proofs.keep.Statement.{statement}
 use Rattle.stream.proofs.keep.Tie as tie

@@ -1,5 +1,5 @@
 use native.Mathlib.Omega.{arith}
-use Rattle.stream.specs.Turns.{feeds-kept, feeds-line}
+use Rattle.stream.specs.LoopLaws.{feeds-kept, feeds-line}
 use borrow.Author.Needs.{needs}
 use Rattle.stream.proofs.step.Statement.{statement}
 use Rattle.stream.proofs.step.Tie as tie

@@ -1,6 +1,6 @@
 use mathlib.Core.Path.{sym, _∙_}
 use native.Mathlib.Omega.{arith}
-use Rattle.home.specs.LookupTurns.{find-end, find-at, find-absent}
+use Rattle.home.specs.LookupLoopLaws.{find-end, find-at, find-absent}
 use borrow.Author.Needs.{needs}
 use Rattle.home.proofs.lookup.find.Statement.{statement}
 use Rattle.home.proofs.lookup.find.Tie as tie

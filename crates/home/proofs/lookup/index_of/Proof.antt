@@ -1,9 +1,8 @@
-use mathlib.Core.Path.{sym}
 use native.Mathlib.Omega.{arith}
 use Prim.Native.Nat.{_+_, _-_, _/_, _≤_}
 use Rattle.wire.specs.Bytes.{get16}
 use Rattle.home.specs.Lookup.{indexOf}
-use Rattle.home.specs.LookupTurns.{find-most, find-up, find-down}
+use Rattle.home.specs.LookupLoopLaws.{find-most, find-up, find-down}
 use borrow.Author.Needs.{needs}
 use Rattle.home.proofs.lookup.index_of.Statement.{statement}
 use Rattle.home.proofs.lookup.index_of.Tie as tie

@@ -1,85 +1,51 @@
 use mathlib.Core.Path.{refl, sym, ap, _∙_}
 use native.Mathlib.Omega.{arith}
-use Rattle.home.specs.Bytes.{countAt}
 use Rattle.records.specs.Records.{encode}
-use Rattle.home.specs.LookupTurns.{sound-ordered, slot-at, listed, listed-bytes, list-none}
+use Rattle.home.specs.TagBlockLaws.{list-at, list-at-bytes, list-none, offset-known, offset-unknown}
 use borrow.Author.Needs.{needs}
 use Rattle.home.proofs.lookup.list.Statement.{statement}
 use Rattle.home.proofs.lookup.list.Tie as tie
 
-find-requires : tie.Need-find-requires
-find-requires c κs = sound-ordered (c .before .args .home .now) (c .before .pre)
+block-of-requires : tie.Need-block-of-requires
+block-of-requires c κs = search needs
 
-enum-known-i : tie.Need-enum-known-i
-enum-known-i c = search needs
-
-mul-get16 : tie.Need-mul-get16
-mul-get16 c =
-    let i = c .before .i in
-    let u = c .before .before .before .before .before .args in
-    let v = c .before .before .before .before .before .pre in
-    let o = sound-ordered (u .home .now) v in
-    let a = slot-at (u .home .now) (u .tag) (i .given .0 .0) (sound-ordered (u .home .now) v) (sym (c .before .before .before .find .ensures) ∙ i .given .1) in
-    omega (arith, o .few, a .0)
-
-add-get16 : tie.Need-add-get16
-add-get16 c =
-    let i = c .before .i in
-    let u = c .before .before .before .before .before .args in
-    let v = c .before .before .before .before .before .pre in
-    let o = sound-ordered (u .home .now) v in
-    let a = slot-at (u .home .now) (u .tag) (i .given .0 .0) (sound-ordered (u .home .now) v) (sym (c .before .before .before .find .ensures) ∙ i .given .1) in
-    omega (arith, o .few, a .0)
-
-add-get16-2 : tie.Need-add-get16-2
-add-get16-2 c =
-    let i = c .before .i in
-    let u = c .before .before .before .before .before .args in
-    let v = c .before .before .before .before .before .pre in
-    let o = sound-ordered (u .home .now) v in
-    let a = slot-at (u .home .now) (u .tag) (i .given .0 .0) (sound-ordered (u .home .now) v) (sym (c .before .before .before .find .ensures) ∙ i .given .1) in
-    omega (arith, o .few, a .0)
-
-get16-requires : tie.Need-get16-requires
-get16-requires c κs =
-    let i = c .before .i in
-    let u = c .before .before .before .before .before .args in
-    let v = c .before .before .before .before .before .pre in
-    let o = sound-ordered (u .home .now) v in
-    let a = slot-at (u .home .now) (u .tag) (i .given .0 .0) (sound-ordered (u .home .now) v) (sym (c .before .before .before .find .ensures) ∙ i .given .1) in
-    omega (arith, o .few, o .long, a .0)
+enum-known-p : tie.Need-enum-known-p
+enum-known-p c = search needs
 
 mul-at : tie.Need-mul-at
-mul-at c = search needs
+mul-at c =
+    let a = c .before .before .before .before .before .args in
+    let g = c .before .p .given in
+    let l = list-at (a .home .now) (a .tag) (g .0 .0) (g .0 .1 .0) (c .before .before .before .before .before .pre) (sym (c .before .before .before .block-of .ensures) ∙ g .1) in
+    omega (arith, l .inside, l .short)
 
 add-at : tie.Need-add-at
-add-at c = search needs
+add-at c =
+    let a = c .before .before .before .before .before .args in
+    let g = c .before .p .given in
+    let l = list-at (a .home .now) (a .tag) (g .0 .0) (g .0 .1 .0) (c .before .before .before .before .before .pre) (sym (c .before .before .before .block-of .ensures) ∙ g .1) in
+    omega (arith, l .inside, l .short)
 
 add-at-2 : tie.Need-add-at-2
-add-at-2 c = search needs
-
-mul-get16-2 : tie.Need-mul-get16-2
-mul-get16-2 c = search needs
-
-add-get16-3 : tie.Need-add-get16-3
-add-get16-3 c = search needs
-
-add-get16-4 : tie.Need-add-get16-4
-add-get16-4 c = search needs
-
-get16-requires-2 : tie.Need-get16-requires-2
-get16-requires-2 c κs =
-    let a = c .before .before .before .before .before .before .args in
-    let i = c .before .before .i in
-    let n = c .get16 in
-    let l = listed (a .home .now) (a .tag) (i .given .0 .0) (n .result) (countAt (a .home .now) (n .result)) (c .before .before .before .before .before .before .pre) (sym (c .before .before .before .before .find .ensures) ∙ i .given .1) (n .ensures .0) refl in
-    omega (arith, l .inside)
+add-at-2 c =
+    let a = c .before .before .before .before .before .args in
+    let g = c .before .p .given in
+    let l = list-at (a .home .now) (a .tag) (g .0 .0) (g .0 .1 .0) (c .before .before .before .before .before .pre) (sym (c .before .before .before .block-of .ensures) ∙ g .1) in
+    omega (arith, l .inside, l .short)
 
 mul-end : tie.Need-mul-end
-mul-end c = search needs
+mul-end c =
+    let a = c .before .before .before .before .before .args in
+    let g = c .before .p .given in
+    let l = list-at (a .home .now) (a .tag) (g .0 .0) (g .0 .1 .0) (c .before .before .before .before .before .pre) (sym (c .before .before .before .block-of .ensures) ∙ g .1) in
+    omega (arith, l .inside, l .short)
 
 add-end : tie.Need-add-end
-add-end c = search needs
+add-end c =
+    let a = c .before .before .before .before .before .args in
+    let g = c .before .p .given in
+    let l = list-at (a .home .now) (a .tag) (g .0 .0) (g .0 .1 .0) (c .before .before .before .before .before .pre) (sym (c .before .before .before .block-of .ensures) ∙ g .1) in
+    omega (arith, l .inside, l .short)
 
 sub-result : tie.Need-sub-result
 sub-result c = search needs
@@ -89,12 +55,10 @@ part-result-start c = search needs
 
 part-result-end : tie.Need-part-result-end
 part-result-end c =
-    let a = c .before .before .before .before .before .before .before .args in
-    let i = c .before .before .before .i in
-    let k = c .get162 in
-    let n = c .before .get16 in
-    let l = listed (a .home .now) (a .tag) (i .given .0 .0) (n .result) (k .result) (c .before .before .before .before .before .before .before .pre) (sym (c .before .before .before .before .before .find .ensures) ∙ i .given .1) (n .ensures .0) (k .ensures .0) in
-    omega (arith, l .inside)
+    let a = c .before .before .before .before .before .args in
+    let g = c .before .p .given in
+    let l = list-at (a .home .now) (a .tag) (g .0 .0) (g .0 .1 .0) (c .before .before .before .before .before .pre) (sym (c .before .before .before .block-of .ensures) ∙ g .1) in
+    omega (arith, l .inside, l .short)
 
 enum-told : tie.Need-enum-told
 enum-told c = search needs
@@ -110,36 +74,28 @@ part-result-end-2 c = search needs
 
 returns : tie.Need-returns
 returns c =
-    let a = c .before .before .before .before .before .before .before .before .args in
-    let k = c .before .get162 in
-    let n = c .before .before .get16 in
-    let u = c .before .before .before .before .i in
-    listed-bytes (a .home .now) (a .tag) (n .result) (k .result) (λ i. omega (arith, c .before .before .before .before .before .before .before .shared-slice-known .given i)) (listed (a .home .now) (a .tag) (u .given .0 .0) (n .result) (k .result) (c .before .before .before .before .before .before .before .before .pre) (sym (c .before .before .before .before .before .before .find .ensures) ∙ u .given .1) (n .ensures .0) (k .ensures .0))
+    let a = c .before .before .before .before .before .before .args in
+    let g = c .before .before .p .given in
+    let e = sym (c .before .before .before .before .block-of .ensures) ∙ g .1 in
+    let l = list-at (a .home .now) (a .tag) (g .0 .0) (g .0 .1 .0) (c .before .before .before .before .before .before .pre) e in
+    (list-at-bytes (a .home .now) (a .tag) (g .0 .0) (g .0 .1 .0) (λ i. omega (arith, c .before .before .before .before .before .shared-slice-known .given i)) l, (refl, omega (arith, offset-known (a .home .now) (a .tag) (g .0 .0) (g .0 .1 .0) e)))
 
 returns-2 : tie.Need-returns-2
 unfolding encode
 returns-2 c =
     let a = c .before .before .before .before .before .args in
-    let u = c .before .enum-told in
-    sym (ap encode (list-none (a .home .now) (a .tag) (u .given .0 .0) (c .before .before .before .before .before .pre) (sym (c .before .before .before .find .ensures) ∙ u .given .1)))
+    let e = sym (c .before .before .before .block-of .ensures) ∙ c .before .enum-told .given .1 in
+    (sym (ap encode (list-none (a .home .now) (a .tag) (c .before .before .before .before .before .pre) e)), (refl, omega (arith, offset-unknown (a .home .now) (a .tag) e)))
 
 pub list-spec : {M : Type 1} → statement M
 list-spec =
     tie.close
     (tie.spec
-    find-requires
-    enum-known-i
-    mul-get16
-    add-get16
-    add-get16-2
-    get16-requires
+    block-of-requires
+    enum-known-p
     mul-at
     add-at
     add-at-2
-    mul-get16-2
-    add-get16-3
-    add-get16-4
-    get16-requires-2
     mul-end
     add-end
     sub-result

@@ -1,5 +1,6 @@
 use mathlib.Core.Path.{refl}
-use Rattle.lines.specs.Run.{editAnswer, editSpace}
+use Rattle.wire.specs.Rules.{first}
+use Rattle.lines.specs.Run.{editOf}
 use borrow.Author.Needs.{needs}
 use Rattle.lines.proofs.run.edit.Statement.{statement}
 use Rattle.lines.proofs.run.edit.Tie as tie
@@ -35,32 +36,32 @@ same-length : tie.Need-same-length
 same-length c = search needs
 
 returns : tie.Need-returns
-unfolding editAnswer editSpace
+unfolding editOf
 returns c = rw (c .before .before .before .before .enum-told .given .1) (c .before .before .put .ensures .0, c .before .before .put .ensures .1)
 
 same-length-2 : tie.Need-same-length-2
 same-length-2 c = search needs
 
 returns-2 : tie.Need-returns-2
-unfolding editAnswer editSpace
+unfolding editOf
 returns-2 c = rw (c .before .before .before .before .enum-told2 .given .1) (c .before .before .delete .ensures .0, c .before .before .delete .ensures .1)
 
 same-length-3 : tie.Need-same-length-3
 same-length-3 c = search needs
 
 returns-3 : tie.Need-returns-3
-unfolding editAnswer editSpace
+unfolding editOf
 returns-3 c = rw (c .before .before .before .before .enum-told3 .given .1) (c .before .before .set-minutes .ensures .0, c .before .before .set-minutes .ensures .1)
 
 same-length-4 : tie.Need-same-length-4
 same-length-4 c = search needs
 
 returns-4 : tie.Need-returns-4
-unfolding editAnswer editSpace
+unfolding editOf
 returns-4 c = rw (c .before .before .before .before .enum-told4 .given .1) (c .before .before .drop-tag .ensures .0, c .before .before .drop-tag .ensures .1)
 
 returns-5 : tie.Need-returns-5
-unfolding editAnswer editSpace
+unfolding editOf first
 returns-5 c = rw (c .enum-told5 .given .1) (refl, refl)
 
 pub edit-spec : {M : Type 1} → statement M

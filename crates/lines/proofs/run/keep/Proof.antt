@@ -1,5 +1,6 @@
 use mathlib.Core.Path.{refl, ap, _∙_}
-use Rattle.lines.specs.Run.{outcomeReply, editReply, editImage}
+use Rattle.log.specs.Calls.{answer, after}
+use Rattle.lines.specs.Run.{outcomeReply, unlessRefused}
 use borrow.Author.Needs.{needs}
 use Rattle.lines.proofs.run.keep.Statement.{statement}
 use Rattle.lines.proofs.run.keep.Tie as tie
@@ -20,11 +21,11 @@ same-length : tie.Need-same-length
 same-length c = search needs
 
 returns : tie.Need-returns
-unfolding editReply editImage
+unfolding unlessRefused
 returns c = rw (c .before .before .before .before .before .enum-told .given .1) (c .reply-of .ensures ∙ ap outcomeReply (c .before .before .before .commit .ensures .0), c .before .before .before .commit .ensures .1)
 
 returns-2 : tie.Need-returns-2
-unfolding editReply editImage
+unfolding unlessRefused outcomeReply answer after
 returns-2 c = rw (c .before .a .given .1) (refl, refl)
 
 pub keep-spec : {M : Type 1} → statement M

@@ -26,7 +26,7 @@ same-length-2 : tie.Need-same-length-2
 same-length-2 c = search needs
 
 returns : tie.Need-returns
-returns c = let r = run-edit (c .before .before .before .before .before .before .before .before .before .before .before .before .before .before .before .before .before .before .args .image .now) (c .before .before .before .before .before .before .before .before .before .before .before .before .before .before .before .before .before .before .args .space .now) (c .before .before .before .before .before .before .before .before .before .before .before .before .before .before .before .before .before .before .args .c) _ _ _ _ _ (sym (c .before .before .before .before .before .before .before .before .before .before .before .before .before .begin .ensures .0) ∙ c .before .before .before .before .before .before .before .before .before .enum-told .given .1) (c .before .before .before .before .before .before .before .before .before .before .before .before .before .begin .ensures .1) (c .before .before .before .before .before .before .before .edit .ensures .0) (c .before .before .before .before .before .before .before .edit .ensures .1) (c .before .before .keep .ensures .0) (c .before .before .keep .ensures .1) in (r .0, r .1)
+returns c = run-edit (c .before .before .before .before .before .before .before .before .before .before .before .before .before .before .before .before .before .before .args .image .now) (c .before .before .before .before .before .before .before .before .before .before .before .before .before .before .before .before .before .before .args .space .now) (c .before .before .before .before .before .before .before .before .before .before .before .before .before .before .before .before .before .before .args .c) _ _ _ _ _ (sym (c .before .before .before .before .before .before .before .before .before .before .before .before .before .begin .ensures .0) ∙ c .before .before .before .before .before .before .before .before .before .enum-told .given .1) (c .before .before .before .before .before .before .before .before .before .before .before .before .before .begin .ensures .1) (c .before .before .before .before .before .before .before .edit .ensures .0) (c .before .before .before .before .before .before .before .edit .ensures .1) (c .before .before .keep .ensures .0) (c .before .before .keep .ensures .1)
 
 same-length-3 : tie.Need-same-length-3
 same-length-3 c = search needs

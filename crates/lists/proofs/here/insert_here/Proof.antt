@@ -4,8 +4,8 @@ use Prim.Native.Nat.{ℕ, _+_, _*_}
 use native.Mathlib.Omega.{arith}
 use Rattle.wire.specs.Bytes.{over, bytes16}
 use Rattle.wire.proofs.Part.{put-over}
-use Rattle.home.specs.Bytes.{cellAt}
-use Rattle.lists.specs.Lists.{listAt, grown, relisted, insertedHere}
+use Rattle.home.specs.Bytes.{cellAt, listAt}
+use Rattle.lists.specs.Lists.{grown, relisted, insertedHere}
 use Rattle.lists.specs.ListsLaws.{length-grown, inserted-lent}
 use borrow.Author.Needs.{needs}
 use Rattle.lists.proofs.here.insert_here.Statement.{statement}

@@ -5,8 +5,8 @@ use native.Mathlib.Omega.{arith}
 use lib.ListN.{replicate, length-append}
 use Rattle.wire.specs.Bytes.{over, bytes16}
 use Rattle.wire.proofs.Part.{put-over}
-use Rattle.home.specs.Bytes.{cellAt}
-use Rattle.lists.specs.Lists.{listAt, shrunk, relisted, removedHere}
+use Rattle.home.specs.Bytes.{cellAt, listAt}
+use Rattle.lists.specs.Lists.{shrunk, relisted, removedHere}
 use Rattle.lists.specs.ListsLaws.{length-shrunk, removed-lent}
 use borrow.Author.Needs.{needs}
 use Rattle.lists.proofs.here.remove_here.Statement.{statement}

@@ -7,9 +7,10 @@ use Rattle.wire.specs.Bytes.{part}
 use Rattle.wire.proofs.Part.{put-over}
 use Rattle.records.specs.Records.{amended}
 use Rattle.records.specs.Edits.{length-amended}
-use Rattle.lists.specs.Lists.{listAt, setHere}
+use Rattle.lists.specs.Lists.{setHere}
 use borrow.Author.Needs.{needs}
 use Rattle.lists.proofs.here.set_here.Statement.{statement}
+use Rattle.home.specs.Bytes.{listAt}
 use Rattle.lists.proofs.here.set_here.Tie as tie
 
 mul-at : tie.Need-mul-at

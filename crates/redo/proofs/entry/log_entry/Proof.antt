@@ -1,6 +1,6 @@
 use mathlib.Core.Path.{refl}
 use Rattle.redo.specs.Stage.{stage-next}
-use Rattle.redo.specs.Turns.{logged-one}
+use Rattle.redo.specs.LoopLaws.{logged-one}
 use Prim.Native.Nat.{_*_}
 use Rattle.wire.specs.BytesLaws.{part-of}
 use borrow.Author.Needs.{needs}

@@ -9,7 +9,7 @@ use Rattle.wire.specs.BytesLaws.{length-part}
 use Rattle.redo.specs.Entry.{page, changes, logged}
 use Rattle.redo.specs.EntryLaws.{changes-none, changes-same, changes-more}
 use Rattle.redo.specs.Stage.{stage-none, stage-next, Makes}
-use Rattle.redo.specs.Turns.{logged-more, logged-home, changes-room}
+use Rattle.redo.specs.LoopLaws.{logged-more, logged-home, changes-room}
 use borrow.Author.Needs.{needs}
 use Rattle.redo.proofs.entry.log_pages.Statement.{statement}
 use Rattle.redo.proofs.entry.log_pages.Tie as tie

@@ -7,7 +7,7 @@ use Rattle.wire.specs.All.{All, all-head, all-tail}
 use Rattle.redo.specs.Entry.{entries, replay}
 use Rattle.redo.specs.EntryLaws.{entries-none, entries-first}
 use Rattle.redo.specs.Stage.{stage-none, stage-next, Makes, makes-within}
-use Rattle.redo.specs.Turns.{replayed-entry, replayed-more}
+use Rattle.redo.specs.LoopLaws.{replayed-entry, replayed-more}
 use borrow.Author.Needs.{needs}
 use Rattle.redo.proofs.entry.replay.Statement.{statement}
 use Rattle.redo.proofs.entry.replay.Tie as tie

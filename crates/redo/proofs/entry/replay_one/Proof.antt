@@ -4,7 +4,7 @@ use Prim.Native.Nat.{_+_, _*_}
 use lib.ListN.{length}
 use Rattle.wire.specs.BytesLaws.{length-part}
 use Rattle.redo.specs.Entry.{entry}
-use Rattle.redo.specs.Turns.{replayed-one}
+use Rattle.redo.specs.LoopLaws.{replayed-one}
 use borrow.Author.Needs.{needs}
 use Rattle.redo.proofs.entry.replay_one.Statement.{statement}
 use Rattle.redo.proofs.entry.replay_one.Tie as tie

@@ -1,0 +1,95 @@
+-- Demand 2 for the edits: an edit changes the named tag's list as said, and every other tag reads as before.
+use mathlib.Core.Path.{_≡_, refl, sym, ap, _∙_}
+use mathlib.Core.Bool.{true}
+use mathlib.Core.Logic.{_≢_}
+use mathlib.Core.Option.{Option, none, some}
+use mathlib.Core.List.{List, [], _++_}
+use Prim.Native.Nat.{ℕ, _*_, _<_}
+use lib.ListN.{length}
+use Rattle.wire.specs.Cases.{never}
+use Rattle.wire.specs.Rules.{Rule, refusal, Ruled, answered, left, behind}
+use Rattle.wire.specs.RulesLaws.{by-refusal, passes-both, first-refused, first-passed}
+use Rattle.records.specs.declared.Record.{Record}
+use Rattle.records.specs.Records.{Fits, insert, remove, amend}
+use Rattle.home.specs.declared.Answer.{Answer}
+use Rattle.home.specs.declared.Answer.the-variants.{Count, Refused}
+use Rattle.home.specs.Capacities.{cells, classOf}
+use Rattle.home.specs.Zones.{Zone}
+use Rattle.home.specs.Layout.{change}
+use Rattle.home.specs.Cases.{Holds}
+use Rattle.wire.specs.Bytes.{isSome}
+use Rattle.home.specs.ChangeLaws.{Changed}
+use Rattle.home.specs.Edits.{Edit, put, delete, setMinutes, dropTag}
+use Rattle.home.specs.EditsLaws.{Fine, changed, put-fine, delete-fine, set-fine, drop-fine}
+use Rattle.home.specs.Bytes.{decode}
+use Rattle.home.specs.HomeLaws.{length-encode-home}
+use Rattle.home.specs.Sound.{sound, pagesOf, listOf}
+use Rattle.home.specs.SoundLaws.{sound-encode, encode-decode, listOf-encode}
+use Rattle.moves.specs.Stored.{settled}
+use Rattle.zones.specs.SoundLaws.{sound-some, sound-small, sound-valid}
+use Rattle.edits.specs.Edits.{edited}
+use Rattle.gates.specs.declared.Of.the-variants.{Space}
+use Rattle.gates.specs.Gates.{gateRules}
+use Rattle.gates.specs.GatesLaws.{space-open}
+use Rattle.index.specs.Calls.{putCall, deleteCall, setCall, dropCall}
+
+-- an edit that is not refused: tag t's list is rs, and the answer its record count; every other tag reads as before
+pub record Done (w w' : List ℕ) (t : ℕ) (rs : List Record) (n : ℕ) : Type 0 where
+  pub fine : sound w' ≡ true
+  pub long : length w' ≡ length w
+  pub list : listOf w' t ≡ rs
+  pub counts : n ≡ length rs
+  pub others : (u : ℕ) → u ≢ t → listOf w' u ≡ listOf w u
+
+-- a refused one changes no lent byte
+abbrev pub Effect : List ℕ → List ℕ → ℕ → List Record → Answer → Type 0
+Effect w w' t rs (Count n) = Done w w' t rs n
+Effect w w' t rs (Refused n) = w' ≡ w
+
+module _ (w : List ℕ) (t : ℕ) (small : t < 4294967296) where
+  abbrev Makes : sound w ≡ true → List Record → Type 0
+  Makes s rs = Fine (8 * pagesOf w) t (decode w) (sound-valid w s) small rs
+
+  makes-done : (s : sound w ≡ true) (rs : List Record) → Makes s rs → Done w (settled (pagesOf w) w (change (8 * pagesOf w) t rs (decode w))) t rs (length rs)
+  unfolding settled listOf
+  makes-done s rs f = go (change (8 * pagesOf w) t rs (decode w)) (f .room) (changed (8 * pagesOf w) t (decode w) (sound-valid w s) small rs (f .listed) (f .free))
+    where
+      go : (o : Option (List Zone)) → isSome o ≡ true → Holds (Changed cells classOf t (8 * pagesOf w) rs (decode w)) o → Done w (settled (pagesOf w) w o) t rs (length rs)
+      go none i h = never i
+      go (some zs) i h = record {
+        fine = sound-encode (pagesOf w) zs (sound-some w s) (sound-small w s) (h .valid);
+        long = length-encode-home (pagesOf w) zs (h .valid) ∙ sym (ap length (sym (encode-decode w s)) ∙ length-encode-home (pagesOf w) (decode w) (sound-valid w s));
+        list = listOf-encode (pagesOf w) zs t (sound-small w s) (h .valid) ∙ h .found;
+        counts = refl;
+        others = λ u d. listOf-encode (pagesOf w) zs u (sound-small w s) (h .valid) ∙ h .others u d;
+      }
+
+  -- behind the rules of a workspace
+  effect : (e : Edit) → ((s : sound w ≡ true) → refusal (e .rules) ≡ none → Makes s (e .list))
+      → Effect w (left (behind (gateRules Space w) (edited w t e)) w) t (e .list) (answered Refused (behind (gateRules Space w) (edited w t e)))
+  effect e f = by-refusal rs
+      (λ n q. rw (first-refused Refused rs n (c .answer) q, first-refused (λ m. w) rs n (c .bytes) q) refl)
+      (λ q. rw (first-passed Refused rs (c .answer) q, first-passed (λ m. w) rs (c .bytes) q)
+      (let p = passes-both (gateRules Space w) (e .rules) q in let s = space-open w (p .0) in makes-done s (e .list) (f s (p .1))))
+    where
+      c : Ruled Answer
+      c = edited w t e
+
+      rs : List Rule
+      rs = gateRules Space w ++ e .rules
+
+  pub put-effect : (r : Record) → Fits r → Effect w (left (putCall w t r) w) t (insert r (listOf w t)) (answered Refused (putCall w t r))
+  unfolding putCall put listOf
+  put-effect r f = effect (put (8 * pagesOf w) t r (decode w)) (λ s q. put-fine (8 * pagesOf w) t (decode w) (sound-valid w s) small r f q)
+
+  pub delete-effect : (k : ℕ) → Effect w (left (deleteCall w t k) w) t (remove k (listOf w t)) (answered Refused (deleteCall w t k))
+  unfolding deleteCall delete listOf
+  delete-effect k = effect (delete t k (decode w)) (λ s q. delete-fine (8 * pagesOf w) t (decode w) (sound-valid w s) small k q)
+
+  pub set-effect : (k m : ℕ) → m < 256 → Effect w (left (setCall w t k m) w) t (amend k m (listOf w t)) (answered Refused (setCall w t k m))
+  unfolding setCall setMinutes listOf
+  set-effect k m g = effect (setMinutes t k m (decode w)) (λ s q. set-fine (8 * pagesOf w) t (decode w) (sound-valid w s) small k m g q)
+
+  pub drop-effect : Effect w (left (dropCall w t) w) t [] (answered Refused (dropCall w t))
+  unfolding dropCall dropTag
+  drop-effect = effect (dropTag t (decode w)) (λ s q. drop-fine (8 * pagesOf w) t (decode w) (sound-valid w s) small q)

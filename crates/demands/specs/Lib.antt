@@ -1,0 +1,6 @@
+pub mod Refusals
+pub mod RefusalsLaws
+pub mod Effects
+pub mod Lists
+pub mod Claim
+pub mod Afresh

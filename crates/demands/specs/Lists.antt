@@ -1,0 +1,128 @@
+-- Demand 2 for lists and reads: each list is sorted, a read gives exactly that list, and what was committed or formatted is what is read.
+use mathlib.Core.Path.{_≡_, refl, sym, ap, _∙_, subst}
+use mathlib.Core.Bool.{true}
+use Prim.Native.Nat.{ℕ, zero, suc, _+_, _≤_, _<_}
+use native.Mathlib.Omega.{arith}
+use mathlib.Core.List.{List, [], _∷_}
+use mathlib.Core.Option.{none}
+use lib.ListN.{length, getD}
+use borrow.Author.Tests.{lt-ltb, eq-eqb}
+use Rattle.wire.specs.All.{All, more}
+use Rattle.wire.specs.Cases.{by-test, never}
+use Rattle.wire.specs.Rules.{first, refusal}
+use Rattle.wire.specs.RulesLaws.{by-refusal}
+use Rattle.records.specs.declared.Record.{Record}
+use Rattle.records.specs.Records.{Fits, key, before, risingFrom, rising, encode as recordBytes}
+use Rattle.records.specs.Order.{before-key, rising-parts, rising-at}
+use Rattle.redo.specs.Image.{mark, home, headOk, inRange, imageLength, emptyImage}
+use Rattle.redo.specs.ImageLaws.{in-range, head-same}
+use Rattle.log.specs.declared.Outcome.the-variants.{Done as Committed}
+use Rattle.log.specs.Calls.{answer, after, commitPlan, formatPlan}
+use Rattle.log.specs.FormatLaws.{format-done, empty-head, empty-mark, empty-home}
+use Rattle.log.specs.Book.{commit, seen, planOf, allowance, value, final}
+use Rattle.log.specs.Claim.{Starts, holds, done-uncaught}
+use Rattle.log.specs.Kept.{completed}
+use Rattle.home.specs.declared.Answer.the-variants.{Count}
+use Rattle.home.specs.Zones.{blocks, find}
+use Rattle.home.specs.Bytes.{encode}
+use Rattle.home.specs.Sound.{sized, sound, listOf}
+use Rattle.home.specs.SoundLaws.{sound-encode, listOf-encode}
+use Rattle.home.specs.EmptyLaws.{no-zones, no-zones-bytes, no-zones-valid}
+use Rattle.gates.specs.declared.Of.{Of}
+use Rattle.gates.specs.declared.Of.the-variants.{Image, Space}
+use Rattle.gates.specs.Gates.{gateRules, homeIn}
+use Rattle.gates.specs.GatesLaws.{image-open}
+use Rattle.reads.specs.Reads.{listIn, countIn, showIn}
+use Rattle.reads.specs.ReadsLaws.{count-open, show-open}
+use Rattle.reads.specs.MergesLaws.{sound-listed}
+use Rattle.index.specs.CommitLaws.{commit-refused}
+
+-- lists are sorted by level, second, phone, those three never twice
+keys-rise : (low i j : ℕ) (xs : List Record) (z : Record) → risingFrom low xs ≡ true → i < j → j < length xs → key (getD xs i z) < key (getD xs j z)
+keys-rise low i j [] z e g h = absurd (omega arith)
+keys-rise low i zero (x ∷ xs) z e g h = absurd (omega arith)
+keys-rise low zero (suc j) (x ∷ xs) z e g h = omega (arith, rising-at (key x + 1) j xs z (rising-parts low x xs e .1) (omega arith))
+keys-rise low (suc i) (suc j) (x ∷ xs) z e g h = keys-rise (key x + 1) i j xs z (rising-parts low x xs e .1) (omega arith) (omega arith)
+
+pub list-sorted : (h : List ℕ) (t : ℕ) → sound h ≡ true → (i j : ℕ) (z : Record) → Fits z → i < j → j < length (listOf h t) → before (getD (listOf h t) i z) (getD (listOf h t) j z) ≡ true
+list-sorted h t s i j z f g k =
+    let rs : List Record = listOf h t in
+    let l = sound-listed h t s in
+    before-key (getD rs i z) (getD rs j z) (fits-at rs i z (l .fits) f) (fits-at rs j z (l .fits) f)
+    ∙ lt-ltb (key (getD rs i z)) (key (getD rs j z)) (keys-rise 0 i j rs z (l .rising) g k)
+  where
+    fits-at : (xs : List Record) (n : ℕ) (z : Record) → All Fits xs → Fits z → Fits (getD xs n z)
+    fits-at [] n z a b = b
+    fits-at (x ∷ xs) zero z (more c a) b = c
+    fits-at (x ∷ xs) (suc n) z (more c a) b = fits-at xs n z a b
+
+-- ---- reads
+
+-- a read gives exactly that list
+pub reads-list : (of : Of) (bs : List ℕ) (t : ℕ) → refusal (gateRules of bs) ≡ none → (countIn of bs t ≡ Count (length (listIn of bs t))) × (showIn of bs t ≡ recordBytes (listIn of bs t))
+reads-list of bs t p = (count-open of bs t p, show-open of bs t p)
+
+sound-sized : (w : List ℕ) → sound w ≡ true → sized w ≡ true
+unfolding sound
+sound-sized w s = by-test (sized w) (λ e. e) (λ e. never (rw e at s))
+
+-- where a sound workspace or a sound image with mark 0 is lent, it is not refused
+pub space-opens : (w : List ℕ) → sound w ≡ true → refusal (gateRules Space w) ≡ none
+unfolding gateRules first
+space-opens w s = rw (sound-sized w s, s)
+
+pub image-opens : (l : List ℕ) → headOk l ≡ true → mark l ≡ 0 → sound (home l) ≡ true → refusal (gateRules Image l) ≡ none
+unfolding gateRules first
+image-opens l ok m s = rw (ok, eq-eqb (mark l) 0 m, s)
+
+-- a committed workspace is what a read of the image then finds
+module _ (l w : List ℕ) (n m : ℕ) (done : answer (commitPlan sound l w) n ≡ Committed m) where
+  abbrev l' : List ℕ
+  l' = after (commitPlan sound l w) n l
+
+  pub record Read : Type 0 where
+    pub gate : refusal (gateRules Image l') ≡ none
+    pub bytes : home l' ≡ w
+    pub fine : sound w ≡ true
+
+  pub committed : Read
+  unfolding answer final seen planOf allowance value
+  committed = by-refusal (gateRules Image l)
+      (λ r q. let f = rw (commit-refused l w r q) at done in let z : _≡_ {A = ℕ} 0 1 = cc in absurd (omega arith))
+      (λ q.
+      let o = image-open l q in
+      let s : Starts sound l = record { head = o .head; unmarked = o .clear; fine = o .fine } in
+      let k = completed sound l s [] w l refl n 0 m done in
+      let t = rw (done-uncaught (commitPlan sound l w) n m 0 l done) at (holds sound l s (commit w n 0 ∷ [])) in
+      let fine : sound w ≡ true = subst (λ (x : List ℕ). sound x ≡ true) (k .0) (t .fits .fine) in
+      record { gate = image-opens l' (head-same (t .head) ∙ o .head) (k .1) (ap sound (k .2) ∙ fine); bytes = k .2; fine = fine })
+
+  pub committed-reads : (t : ℕ) → (countIn Image l' t ≡ countIn Space w t) × (showIn Image l' t ≡ showIn Space w t)
+  unfolding homeIn
+  committed-reads t =
+      let c = committed in
+      let i = reads-list Image l' t (c .gate) in
+      let s = reads-list Space w t (space-opens w (c .fine)) in
+      let e : listOf (home l') t ≡ listOf w t = ap (λ (x : List ℕ). listOf x t) (c .bytes) in
+      (i .0 ∙ ap (λ (x : List Record). Count (length x)) e ∙ sym (s .0), i .1 ∙ ap recordBytes e ∙ sym (s .1))
+
+-- ---- an index that format left
+
+-- it reads empty for every tag
+pub formatted-reads : (l : List ℕ) (L R n : ℕ) → inRange L R ≡ true → length l ≡ imageLength L R → imageLength L R + 1 ≤ n → (t : ℕ)
+    → (countIn Image (after (formatPlan l L R) n l) t ≡ Count 0) × (showIn Image (after (formatPlan l L R) n l) t ≡ [])
+unfolding no-zones blocks find recordBytes homeIn
+formatted-reads l L R n fits long g t =
+    let x : List ℕ = emptyImage L R in
+    let size = in-range L R fits in
+    let h : home x ≡ encode R no-zones = empty-home L R fits ∙ sym (no-zones-bytes R) in
+    let s : sound (home x) ≡ true = ap sound h ∙ sound-encode R no-zones (size .some-pages) (size .few-pages) (no-zones-valid R) in
+    let e : listOf (home x) t ≡ [] = ap (λ (y : List ℕ). listOf y t) h ∙ listOf-encode R no-zones t (size .few-pages) (no-zones-valid R) ∙ none-found t in
+    let r = reads-list Image x t (image-opens x (empty-head L R fits) (empty-mark L R fits) s) in
+    rw (format-done l L R fits long n g) (r .0 ∙ ap (λ (y : List Record). Count (length y)) e, r .1 ∙ ap recordBytes e ∙ none-bytes)
+  where
+    none-found : (t : ℕ) → find t (blocks no-zones) ≡ []
+    none-found t = refl
+
+    none-bytes : recordBytes [] ≡ []
+    none-bytes = refl

@@ -1,0 +1,1 @@
+// The three demands, as theorems over the definitions that the public calls' contracts cite. There is no code here.

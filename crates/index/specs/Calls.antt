@@ -1,0 +1,38 @@
+-- Begin and the edits, each behind the rules of what it is lent.
+use Prim.Native.Nat.{ℕ}
+use mathlib.Core.Bool.{not}
+use mathlib.Core.List.{List, [], _∷_}
+use lib.ListN.{length}
+use lib.Dec.{eqb}
+use Rattle.wire.specs.Rules.{rule, Ruled, behind}
+use Rattle.records.specs.declared.Record.{Record}
+use Rattle.redo.specs.Image.{home}
+use Rattle.home.specs.declared.Answer.{Answer}
+use Rattle.edits.specs.Edits.{putIn, deleteIn, setIn, dropIn}
+use Rattle.gates.specs.declared.Of.the-variants.{Image, Space}
+use Rattle.gates.specs.Gates.{gateRules}
+use Rattle.index.specs.declared.Begun.{Begun}
+use Rattle.index.specs.declared.Begun.the-variants.{Done}
+
+-- "copies home to a workspace of the same length": "6: workspace length doesn't match the image"; it doesn't look at the workspace's old bytes
+abbrev pub copied : List ℕ → List ℕ → Ruled Begun
+copied h w = record { rules = rule 6 (not (eqb (length w) (length h))) ∷ []; answer = Done; bytes = h }
+
+unfoldable pub beginCall : List ℕ → List ℕ → Ruled Begun
+beginCall l w = behind (gateRules Image l) (copied (home l) w)
+
+-- "Put a record": to a tag's list
+unfoldable pub putCall : List ℕ → ℕ → Record → Ruled Answer
+putCall w t r = behind (gateRules Space w) (putIn w t r)
+
+-- "delete one": by the key of its primary part
+unfoldable pub deleteCall : List ℕ → ℕ → ℕ → Ruled Answer
+deleteCall w t k = behind (gateRules Space w) (deleteIn w t k)
+
+-- "set its minutes"
+unfoldable pub setCall : List ℕ → ℕ → ℕ → ℕ → Ruled Answer
+setCall w t k m = behind (gateRules Space w) (setIn w t k m)
+
+-- "drop a tag": with its list
+unfoldable pub dropCall : List ℕ → ℕ → Ruled Answer
+dropCall w t = behind (gateRules Space w) (dropIn w t)
