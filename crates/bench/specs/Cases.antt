@@ -16,7 +16,7 @@ use Rattle.redo.specs.Entry.{Entry, entry, entries, rising, changes, logged, re
 use Rattle.redo.specs.Stores.{clearMark, recoverStores, logStores, commitStores}
 use Rattle.log.specs.declared.Outcome.{Outcome}
 use Rattle.log.specs.declared.Outcome.the-variants.{Done, Cut, Refused as CommitRefused}
-use Rattle.log.specs.Calls.{Plan, answer, after, formatRules, formatPlan, logOk, recoverRules, recoverPlan, changed, commitRules, commitPlan}
+use Rattle.log.specs.Calls.{Plan, answer, after, formatRules, formatPlan, logOk, recoverRules, recoverPlan, changedPages, commitRules, commitPlan}
 use Rattle.log.specs.FormatLaws.{format-done}
 use Rattle.home.specs.Capacities.{capacity, cells, classOf}
 use Rattle.home.specs.Zones.{find, blocks, hasTag, rewritten, place, takeOut, settle, change}
@@ -129,7 +129,7 @@ result (starting L) s s' = began (answered BeginRefused (beginCall (s' .image) l
 result (putting t n) s s' = edited (answered Refused (putCall (s .space) t (of n))) (laid (s' .space))
 result (deleting t n) s s' = edited (answered Refused (deleteCall (s .space) t (key (of n)))) (laid (s' .space))
 result (dropping t) s s' = edited (answered Refused (dropCall (s .space) t)) (laid (s' .space))
-result comparing s s' = differ (map (λ (e : Entry). e .page) (changed (s .image) (s .space)))
+result comparing s s' = differ (map (λ (e : Entry). e .page) (changedPages (s .image) (s .space)))
 result (committing n) s s' = committed (answer (commitPlan sound (s .image) (s .space)) n)
 result (recovering n t) s s' =
     let p : Plan = commitPlan sound (s .image) (s .space) in

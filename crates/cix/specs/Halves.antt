@@ -11,9 +11,10 @@ use Rattle.wire.specs.Cases.{by-test}
 use Rattle.wire.specs.Rules.{Rule, first, refusal, answered, left}
 use Rattle.wire.specs.RulesLaws.{by-refusal, first-refused, first-passed, passes-both}
 use Rattle.records.specs.declared.Record.{Record}
-use Rattle.records.specs.declared.Merge.{Merge}
-use Rattle.records.specs.declared.Side.the-variants.{First, Shared, Second}
-use Rattle.records.specs.Records.{Fits, key, insert, remove, amend, keep, keeps, merge}
+use Rattle.merges.specs.declared.Merge.{Merge}
+use Rattle.merges.specs.declared.Side.the-variants.{First, Shared, Second}
+use Rattle.records.specs.Records.{Fits, key, insert, remove, amend}
+use Rattle.merges.specs.Merging.{keep, keeps, merge}
 use Rattle.home.specs.declared.Answer.{Answer}
 use Rattle.home.specs.declared.Answer.the-variants.{Count, Refused}
 use Rattle.home.specs.Sound.{listOf}

@@ -1,11 +1,12 @@
 // The index for C and Rust: its calls over numbers and byte slices, each with one number as its answer.
 use gates::Access;
 use gates::Of;
+use home::AREA;
 use home::Answer;
 use home::lookup::TagBlock;
 use index::Begun;
 use log::Outcome;
-use records::Merge;
+use merges::Merge;
 use records::Record;
 ghost use mathlib.Core.Path.{_≡_};
 ghost use Prim.Native.Nat.{_+_, _*_, _<_};
@@ -262,7 +263,7 @@ fn span_in(of: Of, bytes: &[u8], tag: u32) -> u64
             let home = gates::home(of, bytes);
             let at = bytes.len() - home.len();
             match home::lookup::block_of(home, tag) {
-                TagBlock::Known(p, n) => span(at + (1664 + 8 * p + 8), n),
+                TagBlock::Known(p, n) => span(at + (AREA + 8 * p + 8), n),
                 TagBlock::Unknown => 0,
             }
         }

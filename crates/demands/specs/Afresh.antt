@@ -15,7 +15,7 @@ use Rattle.records.specs.declared.Record.{Record}
 use Rattle.records.specs.Records.{Fits, insert}
 use Rattle.redo.specs.Store.{Store}
 use Rattle.redo.specs.Image.{home}
-use Rattle.log.specs.Calls.{store, answer, changed, commitPlan}
+use Rattle.log.specs.Calls.{store, answer, changedPages, commitPlan}
 use Rattle.log.specs.Book.{Call, commit, final}
 use Rattle.log.specs.Kept.{IsRecover, Finds, Found}
 use Rattle.home.specs.Capacities.{cells, classOf}
@@ -105,15 +105,15 @@ module _ (l : List ℕ) (t : ℕ) (r : Record) (k : Afresh (home l) t r) {ss : L
   x = final sound (commit w n v ∷ rs) l
 
   -- "a switch-off during such a commit leaves the index from before it or the one laid out afresh"
-  pub afresh-switched-off : Found n v (length (changed l w)) (home l) (encode (pagesOf (home l)) (laidAfresh (home l) t r)) x
-  afresh-switched-off = subst (λ (y : List ℕ). Found n v (length (changed l w)) (home l) y x) (put-afresh (home l) t r k .0) (index-switched-off l w plan n v recovers)
+  pub afresh-switched-off : Found n v (length (changedPages l w)) (home l) (encode (pagesOf (home l)) (laidAfresh (home l) t r)) x
+  afresh-switched-off = subst (λ (y : List ℕ). Found n v (length (changedPages l w)) (home l) y x) (put-afresh (home l) t r k .0) (index-switched-off l w plan n v recovers)
 
   -- "Lists of other tags still read the same", in whichever of the two is found
-  pub afresh-others : (y : List ℕ) → Finds n v (length (changed l w)) (home l) (encode (pagesOf (home l)) (laidAfresh (home l) t r)) y → (u : ℕ) → u ≢ t → listOf y u ≡ listOf (home l) u
+  pub afresh-others : (y : List ℕ) → Finds n v (length (changedPages l w)) (home l) (encode (pagesOf (home l)) (laidAfresh (home l) t r)) y → (u : ℕ) → u ≢ t → listOf y u ≡ listOf (home l) u
   afresh-others y f u d =
       let new-is : encode (pagesOf (home l)) (laidAfresh (home l) t r) ≡ w = sym (put-afresh (home l) t r k .0) in
       let others : listOf w u ≡ listOf (home l) u = (subst (Effect (home l) w t (insert r (listOf (home l) t))) (k .done) (put-effect (home l) t (k .tag) r (k .fits))) .others u d in
       let old : y ≡ home l → listOf y u ≡ listOf (home l) u = λ q. ap (λ (z : List ℕ). listOf z u) q in
       let new : y ≡ encode (pagesOf (home l)) (laidAfresh (home l) t r) → listOf y u ≡ listOf (home l) u = λ q. ap (λ (z : List ℕ). listOf z u) (q ∙ new-is) ∙ others in
-      by-lt n (66 * length (changed l w) + 2) (λ g. old (f .before g))
-      (λ g. by-eq n (66 * length (changed l w) + 2) (λ q. ⊎-elim old new (f .halfway q)) (λ q. new (f .whole (omega arith))))
+      by-lt n (66 * length (changedPages l w) + 2) (λ g. old (f .before g))
+      (λ g. by-eq n (66 * length (changedPages l w) + 2) (λ q. ⊎-elim old new (f .halfway q)) (λ q. new (f .whole (omega arith))))

@@ -15,7 +15,7 @@ use Rattle.redo.specs.Store.{Store}
 use Rattle.redo.specs.Image.{capacity, mark, home}
 use Rattle.log.specs.declared.Outcome.{Outcome}
 use Rattle.log.specs.declared.Outcome.the-variants.{Done, Refused}
-use Rattle.log.specs.Calls.{store, answer, changed, commitPlan}
+use Rattle.log.specs.Calls.{store, answer, changedPages, commitPlan}
 use Rattle.log.specs.Book.{Call, commit, recover, value, planOf, Seen, trace, final, Book, start, differing, Verdict, refused, writes, bookRules, judge, commitNeed, recoverNeed, report, answerTo, foretold, next, bookAfter, leftBy, told, ledger}
 use Rattle.log.specs.Claim.{Starts, Claim, claim}
 use Rattle.log.specs.Kept.{bookOf, committed, IsRecover, Found, switched-off, completed}
@@ -31,7 +31,7 @@ index-claim l s cs = claim sound l s cs
 
 -- a switch-off in the middle of any byte of a commit that is not refused, and of any recoveries after it
 pub index-switched-off : (l w : List ℕ) {ss : List Store} → commitPlan sound l w ≡ store ss → (n v : ℕ) {rs : List Call} → All IsRecover rs
-    → Found n v (length (changed l w)) (home l) w (final sound (commit w n v ∷ rs) l)
+    → Found n v (length (changedPages l w)) (home l) w (final sound (commit w n v ∷ rs) l)
 index-switched-off = switched-off sound
 
 -- what is kept: the workspace that was last logged when the mark of a commit was last stored, by a commit or by a recovery told 165, or the home bytes from the start

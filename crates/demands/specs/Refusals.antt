@@ -6,7 +6,7 @@ use mathlib.Core.List.{List, []}
 use mathlib.Core.Option.{Option, none, some}
 use Rattle.wire.specs.Rules.{Rule, answered, left}
 use Rattle.records.specs.declared.Record.{Record}
-use Rattle.records.specs.declared.Merge.{Merge}
+use Rattle.merges.specs.declared.Merge.{Merge}
 use Rattle.log.specs.declared.Outcome.{Outcome}
 use Rattle.log.specs.declared.Outcome.the-variants.{Done, Cut, Refused as NotStored}
 use Rattle.log.specs.Calls.{answer, after, commitRules, commitPlan, recoverRules, recoverPlan, formatRules, formatPlan}

@@ -9,7 +9,7 @@ use Rattle.wire.specs.Cases.{by-test}
 use Rattle.wire.specs.Rules.{Rule, first, refusal, numbers, Ruled, left}
 use Rattle.wire.specs.RulesLaws.{by-refusal, first-refused, first-passed}
 use Rattle.records.specs.declared.Record.{Record}
-use Rattle.records.specs.declared.Merge.{Merge}
+use Rattle.merges.specs.declared.Merge.{Merge}
 use Rattle.redo.specs.Store.{Store}
 use Rattle.log.specs.Calls.{Plan, refuse, store, answer, after, commitPlan, recoverPlan, formatPlan}
 use Rattle.home.specs.declared.Answer.the-variants.{Refused}

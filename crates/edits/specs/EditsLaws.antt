@@ -16,8 +16,8 @@ use Rattle.wire.specs.BytesLaws.{over-whole}
 use Rattle.wire.specs.Cases.{by-test, never, leb-iff, not-leb}
 use Rattle.wire.specs.All.{more, none as nothing}
 use Rattle.records.specs.declared.Record.{Record}
-use Rattle.records.specs.declared.Place.the-variants.{Found, Absent}
-use Rattle.records.specs.Records.{Fits, key, risingFrom, rising, look, held, rank, place as placeOf, insert, amend, up, inserted, bytesOf, encode as recordBytes, decode as recordsIn}
+use Rattle.records.specs.declared.Rank.the-variants.{Found, Absent}
+use Rattle.records.specs.Records.{Fits, key, risingFrom, rising, look, held, rank, ranked as rankedIn, insert, amend, up, inserted, bytesOf, encode as recordBytes, decode as recordsIn}
 use Rattle.records.specs.Moves.{length-up}
 use Rattle.records.specs.Cells.{length-bytesOf}
 use Rattle.records.specs.Edits.{length-encode, decode-encode}
@@ -45,7 +45,7 @@ use Rattle.zones.specs.Afresh.{settledIn}
 use Rattle.lists.specs.Lists.{setHere}
 use Rattle.lists.specs.ListedLaws.{listed-has, listed-lying, listed-many}
 use Rattle.lists.specs.RecordLaws.{without-is, left-many, new-many, new-proper, set-changed}
-use Rattle.lists.specs.Listed.{changed, without, Listed, Placed, Ranked}
+use Rattle.lists.specs.Listed.{changed, without, Listed, Missing, Ranked}
 use Rattle.edits.specs.Edits.{edited, putIn, deleteIn, setIn, dropIn, fitsAfter}
 
 -- ---- what a search finds
@@ -53,14 +53,14 @@ use Rattle.edits.specs.Edits.{edited, putIn, deleteIn, setIn, dropIn, fi
 found-clash : {G : Type 0} (i j : ℕ) → Absent i ≡ Found j → G
 found-clash i j e = let z : _≡_ {A = ℕ} 0 1 = cc in absurd (omega arith)
 
-pub found-held : (k j : ℕ) (rs : List Record) → Found j ≡ placeOf k rs → (held (look k rs) ≡ true) × (rank k rs ≡ j)
-unfolding placeOf
+pub found-held : (k j : ℕ) (rs : List Record) → Found j ≡ rankedIn k rs → (held (look k rs) ≡ true) × (rank k rs ≡ j)
+unfolding rankedIn
 found-held k j rs e = by-test (held (look k rs))
     (λ p. let f : Found j ≡ Found (rank k rs) = rw p at e in (p, cc))
     (λ p. found-clash (rank k rs) j (sym (rw p at e)))
 
-pub absent-held : (k j : ℕ) (rs : List Record) → Absent j ≡ placeOf k rs → (held (look k rs) ≡ false) × (rank k rs ≡ j)
-unfolding placeOf
+pub absent-held : (k j : ℕ) (rs : List Record) → Absent j ≡ rankedIn k rs → (held (look k rs) ≡ false) × (rank k rs ≡ j)
+unfolding rankedIn
 absent-held k j rs e = by-test (held (look k rs))
     (λ p. found-clash j (rank k rs) (rw p at e))
     (λ p. let f : Absent j ≡ Absent (rank k rs) = rw p at e in (p, cc))
@@ -136,7 +136,7 @@ last area t r zs h g f b e =
     flip true = refl
     flip false = refl
 
-module _ (h : List ℕ) (t p n j : ℕ) (r : Record) (k : Placed h t p n j r) where
+module _ (h : List ℕ) (t p n j : ℕ) (r : Record) (k : Missing h t p n j r) where
   abbrev new : List Record
   new = insert r (listOf h t)
 

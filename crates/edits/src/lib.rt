@@ -1,5 +1,8 @@
 // The edits of a sound workspace, in place: put, delete, set minutes and drop.
+use home::AREA;
 use home::Answer;
+use home::classes::LONGEST_LIST;
+use home::classes::capacity;
 use home::classes::cells;
 use home::classes::class_of;
 use home::lookup::TagBlock;
@@ -9,7 +12,7 @@ use lists::change::remove_record;
 use lists::here::insert_here;
 use lists::here::set_here;
 use lists::read::search_at;
-use records::Place;
+use records::Rank;
 use records::Record;
 use zones::afresh::settle;
 use zones::afresh::total;
@@ -21,7 +24,7 @@ ghost use Rattle.home.specs.Zones.{blocks, hasTag};
 ghost use Rattle.home.specs.Bytes.{decode};
 ghost use Rattle.home.specs.Sound.{sound};
 ghost use Rattle.moves.specs.Stored.{Stored};
-ghost use Rattle.lists.specs.Listed.{Listed, Placed};
+ghost use Rattle.lists.specs.Listed.{Listed, Missing};
 ghost use Rattle.wire.specs.Rules.{answered, left};
 ghost use Rattle.edits.specs.Edits.{putIn, deleteIn, setIn, dropIn, fitsAfter};
 
@@ -30,13 +33,13 @@ fn room_after(home: &[u8], c: usize, d: usize) -> bool
     requires { ⌜ Stored (now home) × (c < 30) × (d < 30) ⌝ }
     ensures { λ r. ⌜ r ≡ fitsAfter (now (home .entry)) c d ⌝ }
 {
-    let area = (home.len() - 1664) / 8;
+    let area = (home.len() - AREA) / 8;
     total(home) + cells(d) <= area + cells(c)
 }
 
 // Puts a record in at its rank among the n records of the tag's block at cell p.
 fn insert_record(home: &mut [u8], tag: u32, p: usize, n: usize, j: usize, r: Record) -> Answer
-    requires { ⌜ Placed (now home) tag p n j r ⌝ }
+    requires { ⌜ Missing (now home) tag p n j r ⌝ }
     ensures { λ a. ⌜ a ≡ answered Answer.Refused (putIn (now (home .entry)) tag r) ⌝ }
     ensures { λ _. ⌜ now (home .exit) ≡ left (putIn (now (home .entry)) tag r) (now (home .entry)) ⌝ }
 {
@@ -44,15 +47,14 @@ fn insert_record(home: &mut [u8], tag: u32, p: usize, n: usize, j: usize, r: Rec
         return Answer::Refused(10);
     }
     let c = class_of(n);
-    let d = class_of(n + 1);
-    if d == c {
+    if n < capacity(c) {
         insert_here(home, p, n, j, r);
         return Answer::Count(n + 1);
     }
-    if !room_after(home, c, d) {
+    if !room_after(home, c, class_of(n + 1)) {
         return Answer::Refused(12);
     }
-    let mut aside = [0; 7912];
+    let mut aside = [0; LONGEST_LIST];
     insert_moving(home, tag, p, n, j, r, &mut aside);
     Answer::Count(n + 1)
 }
@@ -64,8 +66,8 @@ fn put_known(home: &mut [u8], tag: u32, p: usize, n: usize, r: Record) -> Answer
     ensures { λ _. ⌜ now (home .exit) ≡ left (putIn (now (home .entry)) tag r) (now (home .entry)) ⌝ }
 {
     match search_at(home, p, n, records::key_of(r)) {
-        Place::Found(_) => Answer::Refused(8),
-        Place::Absent(j) => insert_record(home, tag, p, n, j, r),
+        Rank::Found(_) => Answer::Refused(8),
+        Rank::Absent(j) => insert_record(home, tag, p, n, j, r),
     }
 }
 
@@ -106,11 +108,11 @@ fn delete_known(home: &mut [u8], tag: u32, p: usize, n: usize, key: u64) -> Answ
     ensures { λ _. ⌜ now (home .exit) ≡ left (deleteIn (now (home .entry)) tag key) (now (home .entry)) ⌝ }
 {
     match search_at(home, p, n, key) {
-        Place::Found(j) => {
+        Rank::Found(j) => {
             remove_record(home, tag, p, n, j);
             Answer::Count(n - 1)
         }
-        Place::Absent(_) => Answer::Refused(9),
+        Rank::Absent(_) => Answer::Refused(9),
     }
 }
 
@@ -133,11 +135,11 @@ fn set_known(home: &mut [u8], tag: u32, p: usize, n: usize, key: u64, minutes: u
     ensures { λ _. ⌜ now (home .exit) ≡ left (setIn (now (home .entry)) tag key minutes) (now (home .entry)) ⌝ }
 {
     match search_at(home, p, n, key) {
-        Place::Found(j) => {
+        Rank::Found(j) => {
             set_here(home, p, n, j, minutes);
             Answer::Count(n)
         }
-        Place::Absent(_) => Answer::Refused(9),
+        Rank::Absent(_) => Answer::Refused(9),
     }
 }
 

@@ -46,11 +46,11 @@ unfolding paint spots
 area n zs = paint (spots 0 zs) (replicate (8 * n) 0)
 
 -- "For each class c .. the zone's first cell (2) and its block count (2); an empty zone has first cell 0"
-unfoldable pub entries : List Zone → List ℕ
+unfoldable pub zoneEntries : List Zone → List ℕ
 unfolding bytes16
-entries [] = []
-entries (empty ∷ zs) = 0 ∷ 0 ∷ 0 ∷ 0 ∷ entries zs
-entries (from f x xs ∷ zs) = bytes16 f ++ (bytes16 (suc (length xs)) ++ entries zs)
+zoneEntries [] = []
+zoneEntries (empty ∷ zs) = 0 ∷ 0 ∷ 0 ∷ 0 ∷ zoneEntries zs
+zoneEntries (from f x xs ∷ zs) = bytes16 f ++ (bytes16 (suc (length xs)) ++ zoneEntries zs)
 
 -- "entries of tag (4) and block's first cell (2)"
 pub record Entry : Type 0 where
@@ -88,8 +88,8 @@ padded ds = entriesBytes ds ++ replicate (1536 - 6 * length ds) 0
 
 -- home's bytes with R record pages: "bytes 0–1 hold the tag count", zone entries, "Bytes 122–127 are zero", dictionary, "From byte 1,664 lies the record area of 8R cells"
 unfoldable pub encode : ℕ → List Zone → List ℕ
-unfolding bytes16 entries dictionary padded area blocks
-encode R zs = bytes16 (length (blocks zs)) ++ (entries zs ++ (replicate 6 0 ++ (padded (dictionary zs) ++ area (8 * R) zs)))
+unfolding bytes16 zoneEntries dictionary padded area blocks
+encode R zs = bytes16 (length (blocks zs)) ++ (zoneEntries zs ++ (replicate 6 0 ++ (padded (dictionary zs) ++ area (8 * R) zs)))
 
 -- ---- back, of any bytes h
 
@@ -101,8 +101,8 @@ cellAt p = 1664 + 8 * p
 abbrev pub listAt : ℕ → ℕ
 listAt p = cellAt p + 8
 
-abbrev pub entryAt : ℕ → ℕ
-entryAt c = 2 + 4 * c
+abbrev pub zoneEntryAt : ℕ → ℕ
+zoneEntryAt c = 2 + 4 * c
 
 -- a block's record count, and the block
 abbrev pub countAt : List ℕ → ℕ → ℕ
@@ -120,10 +120,10 @@ blocksAt h c p (suc n) = blockAt h p ∷ blocksAt h c (p + cells c) n
 
 -- zone c's first cell, its block count, and the zone
 abbrev pub firstAt : List ℕ → ℕ → ℕ
-firstAt h c = get16 h (entryAt c)
+firstAt h c = get16 h (zoneEntryAt c)
 
 abbrev pub manyAt : List ℕ → ℕ → ℕ
-manyAt h c = get16 h (entryAt c + 2)
+manyAt h c = get16 h (zoneEntryAt c + 2)
 
 unfoldable pub zoneAt : List ℕ → ℕ → Zone
 unfolding get16 blocksAt zone
@@ -148,10 +148,10 @@ decode h = zonesFrom h 0 30
 abbrev pub tagAt : List ℕ → ℕ → ℕ
 tagAt h i = get32 h (128 + 6 * i)
 
-abbrev pub placeAt : List ℕ → ℕ → ℕ
-placeAt h i = get16 h (128 + 6 * i + 4)
+abbrev pub entryCell : List ℕ → ℕ → ℕ
+entryCell h i = get16 h (128 + 6 * i + 4)
 
 -- n entries from the i-th on
 unfoldable pub entriesAt : List ℕ → ℕ → ℕ → List Entry
 entriesAt h i zero = []
-entriesAt h i (suc n) = record { tag = tagAt h i; cell = placeAt h i } ∷ entriesAt h (suc i) n
+entriesAt h i (suc n) = record { tag = tagAt h i; cell = entryCell h i } ∷ entriesAt h (suc i) n

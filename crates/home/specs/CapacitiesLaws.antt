@@ -2,6 +2,7 @@
 use mathlib.Core.Path.{_≡_, refl, sym, ap, _∙_}
 use mathlib.Core.Bool.{Bool, true, _&&_}
 use mathlib.Core.List.{List, [], _∷_, _++_}
+use mathlib.Core.Logic.{_≢_}
 use Prim.Native.Nat.{ℕ, zero, suc, _+_, _-_, _≤_, _<_, suc-le-suc}
 use native.Mathlib.Omega.{arith}
 use native.Mathlib.Nat.{sub-zero, add-zero, add-suc}
@@ -118,6 +119,10 @@ pub class-mono : (m n : ℕ) → m ≤ n → classOf m ≤ classOf n
 unfolding classOf
 class-mono m n h = mono-from 0 capacities m n h
 
+classes-begin : classOf (0 + 1) ≡ classOf 0
+unfolding classOf
+classes-begin = refl
+
 class-989 : classOf 989 ≡ 29
 unfolding classOf
 class-989 = refl
@@ -170,6 +175,21 @@ class-within n c b l r =
     by-lt c (classOf n)
     (λ k. absurd (omega (arith, class-least n c b k)))
     (λ k. by-lt (classOf n) c (λ q. absurd (not-lower n c l (classOf n) refl (omega arith) q)) (λ q. omega arith))
+
+-- one record more or fewer has the same class within these bounds, and another beyond them
+pub class-stays : (n c : ℕ) → n < 989 → c ≡ classOf n → n < capacity c → classOf (n + 1) ≡ classOf n
+class-stays n c h e g = by-eq n 0
+    (λ z. rw z classes-begin)
+    (λ z. class-within (n + 1) (classOf n) (class-below n (omega arith)) (omega (arith, class-over n (classOf n) (omega arith) (omega arith) refl)) (let k : n < capacity (classOf n) = rw e at g in omega arith))
+
+pub class-leaves : (n c : ℕ) → n < 989 → c ≡ classOf n → capacity c ≤ n → classOf (n + 1) ≢ classOf n
+class-leaves n c h e g q = omega (arith, rw (q, ← e) at (class-capacity (n + 1) (class-below (n + 1) (omega arith))))
+
+pub class-kept : (n c : ℕ) → 1 < n → n ≤ 989 → c ≡ classOf n → under c < n - 1 → classOf (n - 1) ≡ classOf n
+class-kept n c l h e g = class-within (n - 1) (classOf n) (class-below n h) (rw e at g) (omega (arith, class-capacity n (class-below n h)))
+
+pub class-lost : (n c : ℕ) → 1 < n → n ≤ 989 → c ≡ classOf n → n - 1 ≤ under c → classOf (n - 1) ≢ classOf n
+class-lost n c l h e g q = omega (arith, class-over (n - 1) c (omega arith) (omega arith) (q ∙ sym e))
 
 -- ---- what the code finds
 

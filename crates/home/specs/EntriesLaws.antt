@@ -10,7 +10,7 @@ use Rattle.wire.specs.All.{All, none, more}
 use Rattle.home.specs.Zones.{Zone, blocks}
 use Rattle.home.specs.Perm.{In}
 use Rattle.home.specs.Layout.{Sits, Fit, Valid}
-use Rattle.home.specs.Bytes.{Spot, spots, area, entries, Entry, entryOf, dictionary, entriesBytes, padded, encode, tagAt, placeAt, entriesAt}
+use Rattle.home.specs.Bytes.{Spot, spots, area, zoneEntries, Entry, entryOf, dictionary, entriesBytes, padded, encode, tagAt, entryCell, entriesAt}
 use Rattle.home.specs.PermLaws.{psym, pall, all-in}
 use Rattle.home.specs.BytesLaws.{get16-front, get32-front}
 use Rattle.home.specs.AreaLaws.{Good, spots-sit, spots-good}
@@ -54,7 +54,7 @@ entries-back h i (d ∷ ds) rest e (more p ps) =
     let at : ℕ = 128 + 6 * i in
     let next : 128 + 6 * suc i ≡ at + 6 = omega arith in
     let qt : tagAt h i ≡ d .tag = entry-tag h at d ds rest e (p .tag) in
-    let qc : placeAt h i ≡ d .cell = entry-cell h at d ds rest e (p .cell) in
+    let qc : entryCell h i ≡ d .cell = entry-cell h at d ds rest e (p .cell) in
     ap₂ {A = Entry} {B = List Entry} _∷_ (λ j. record { tag = qt j; cell = qc j })
     (entries-back h (suc i) ds rest (ap (λ (k : ℕ). drop k h) next ∙ sym (drop-drop 6 at h) ∙ entry-rest h at d ds rest e) ps)
 
@@ -70,7 +70,7 @@ module _ (R : ℕ) (zs : List Zone) (v : Valid (8 * R) zs) (small : R ≤ 1024) 
   tag-count = get16-front (length (blocks zs)) [] (omega (arith, v .few))
 
   lead : List ℕ
-  lead = bytes16 (length (blocks zs)) ++ (entries zs ++ replicate 6 0)
+  lead = bytes16 (length (blocks zs)) ++ (zoneEntries zs ++ replicate 6 0)
 
   home-split : home ≡ lead ++ (padded (dictionary zs) ++ area (8 * R) zs)
   unfolding encode lead

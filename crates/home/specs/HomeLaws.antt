@@ -18,7 +18,7 @@ use Rattle.home.specs.Capacities.{cells, capacity}
 use Rattle.home.specs.CapacitiesLaws.{cells-pos, cells-most}
 use Rattle.home.specs.Zones.{Block, Zone, empty, from, zone, blocks}
 use Rattle.home.specs.Layout.{Sits, Fit, Valid}
-use Rattle.home.specs.Bytes.{blockBytes, Spot, row, spots, area, entries, Entry, entryOf, enter, sorted, dictionary, entriesBytes, padded, encode, cellAt, entryAt, countAt, blockAt, blocksAt, firstAt, manyAt, zoneAt, zonesFrom, decode}
+use Rattle.home.specs.Bytes.{blockBytes, Spot, row, spots, area, zoneEntries, Entry, entryOf, enter, sorted, dictionary, entriesBytes, padded, encode, cellAt, zoneEntryAt, countAt, blockAt, blocksAt, firstAt, manyAt, zoneAt, zonesFrom, decode}
 use Rattle.home.specs.Cases.{by-pick}
 use Rattle.home.specs.PermLaws.{all-left, all-right}
 use Rattle.home.specs.BytesLaws.{chop, get16-drop, get32-drop, get16-front, get32-front}
@@ -104,30 +104,30 @@ zones-back n c e (from f x xs ∷ zs) h l d r = ap₂ {A = Zone} {B = List Zone}
     (ap₂ (λ (g m : ℕ). zone g (blocksAt h c g m)) (d .0) (d .1) ∙ ap (zone f) (blocks-back h c f (x ∷ xs) (l .0 .sit) (all-left (ReadsAt h) (row c f (x ∷ xs)) (spots (suc c) zs) r)))
     (zones-back n (suc c) (f + suc (length xs) * cells c) zs h (l .1) (d .2) (all-right (ReadsAt h) (row c f (x ∷ xs)) (spots (suc c) zs) r))
 
-entry-next : (h : List ℕ) (c : ℕ) → drop (entryAt (suc c)) h ≡ drop 4 (drop (entryAt c) h)
-entry-next h c = let e : entryAt (suc c) ≡ entryAt c + 4 = omega arith in ap (λ (k : ℕ). drop k h) e ∙ sym (drop-drop 4 (entryAt c) h)
+entry-next : (h : List ℕ) (c : ℕ) → drop (zoneEntryAt (suc c)) h ≡ drop 4 (drop (zoneEntryAt c) h)
+entry-next h c = let e : zoneEntryAt (suc c) ≡ zoneEntryAt c + 4 = omega arith in ap (λ (k : ℕ). drop k h) e ∙ sym (drop-drop 4 (zoneEntryAt c) h)
 
-pub entries-read : (n c e : ℕ) (zs : List Zone) (h rest : List ℕ) → n < 65536 → Fit n c e zs → drop (entryAt c) h ≡ entries zs ++ rest → Entries h c zs
-unfolding entries bytes16 get16
+pub entries-read : (n c e : ℕ) (zs : List Zone) (h rest : List ℕ) → n < 65536 → Fit n c e zs → drop (zoneEntryAt c) h ≡ zoneEntries zs ++ rest → Entries h c zs
+unfolding zoneEntries bytes16 get16
 entries-read n c e [] h rest small l q = tt
 entries-read n c e (empty ∷ zs) h rest small l q = (
-  ap (get16 h) (sym (add-zero (entryAt c))) ∙ get16-at h (entries (empty ∷ zs) ++ rest) (entryAt c) 0 q,
-  get16-at h (entries (empty ∷ zs) ++ rest) (entryAt c) 2 q,
+  ap (get16 h) (sym (add-zero (zoneEntryAt c))) ∙ get16-at h (zoneEntries (empty ∷ zs) ++ rest) (zoneEntryAt c) 0 q,
+  get16-at h (zoneEntries (empty ∷ zs) ++ rest) (zoneEntryAt c) 2 q,
   entries-read n (suc c) e zs h rest small l (entry-next h c ∙ ap (drop 4) q),
 )
 entries-read n c e (from f x xs ∷ zs) h rest small l q =
     let g : ℕ = f + suc (length xs) * cells c in
     let gn : g ≤ n = fit-le n (suc c) g zs (l .1) in
     let k : suc (length xs) * 1 ≤ suc (length xs) * cells c = mul-le-mul-left (suc (length xs)) (cells-pos c) in (
-      ap (get16 h) (sym (add-zero (entryAt c))) ∙ get16-at h (entries (from f x xs ∷ zs) ++ rest) (entryAt c) 0 q ∙ get16-front f [] (omega arith),
-      get16-at h (entries (from f x xs ∷ zs) ++ rest) (entryAt c) 2 q ∙ get16-front (suc (length xs)) [] (omega arith),
+      ap (get16 h) (sym (add-zero (zoneEntryAt c))) ∙ get16-at h (zoneEntries (from f x xs ∷ zs) ++ rest) (zoneEntryAt c) 0 q ∙ get16-front f [] (omega arith),
+      get16-at h (zoneEntries (from f x xs ∷ zs) ++ rest) (zoneEntryAt c) 2 q ∙ get16-front (suc (length xs)) [] (omega arith),
       entries-read n (suc c) g zs h rest small (l .1) (entry-next h c ∙ ap (drop 4) q),
     )
 
 -- ---- lengths
 
-pub length-entries : (zs : List Zone) → length (entries zs) ≡ 4 * length zs
-unfolding entries bytes16
+pub length-entries : (zs : List Zone) → length (zoneEntries zs) ≡ 4 * length zs
+unfolding zoneEntries bytes16
 length-entries [] = refl
 length-entries (empty ∷ zs) = omega (arith, length-entries zs)
 length-entries (from f x xs ∷ zs) = omega (arith, length-entries zs)
@@ -171,13 +171,13 @@ length-padded ds h = simp (length-append, length-entriesBytes, length-replicate)
 module _ (R : ℕ) (zs : List Zone) where
   -- all before the record area
   unfoldable pub lead : List ℕ
-  lead = bytes16 (length (blocks zs)) ++ (entries zs ++ (replicate 6 0 ++ padded (dictionary zs)))
+  lead = bytes16 (length (blocks zs)) ++ (zoneEntries zs ++ (replicate 6 0 ++ padded (dictionary zs)))
 
   pub encode-split : encode R zs ≡ lead ++ area (8 * R) zs
   unfolding encode lead
   encode-split = simp append-assoc
 
-  pub encode-entries : drop 2 (encode R zs) ≡ entries zs ++ (replicate 6 0 ++ (padded (dictionary zs) ++ area (8 * R) zs))
+  pub encode-entries : drop 2 (encode R zs) ≡ zoneEntries zs ++ (replicate 6 0 ++ (padded (dictionary zs) ++ area (8 * R) zs))
   unfolding encode bytes16
   encode-entries = refl
 

@@ -9,7 +9,7 @@ use Rattle.home.specs.declared.lookup.Slot.{Slot}
 use Rattle.home.specs.declared.lookup.Slot.the-variants.{At, Absent}
 use Rattle.home.specs.declared.lookup.TagBlock.{TagBlock}
 use Rattle.home.specs.declared.lookup.TagBlock.the-variants.{Known, Unknown}
-use Rattle.home.specs.Bytes.{listAt, tagAt, placeAt, countAt}
+use Rattle.home.specs.Bytes.{listAt, tagAt, entryCell, countAt}
 
 -- "up to 256 entries .., strictly rising by tag": a dictionary in which a tag can be found
 pub record Ordered (h : List ℕ) : Type 0 where
@@ -18,9 +18,9 @@ pub record Ordered (h : List ℕ) : Type 0 where
   pub rise : (i j : ℕ) → i < j → j < get16 h 0 → tagAt h i < tagAt h j
 
 -- has one of the n entries from the i-th on this tag
-unfoldable pub entered : List ℕ → ℕ → ℕ → ℕ → Bool
-entered h t i zero = false
-entered h t i (suc n) = eqb (tagAt h i) t || entered h t (suc i) n
+unfoldable pub hasEntry : List ℕ → ℕ → ℕ → ℕ → Bool
+hasEntry h t i zero = false
+hasEntry h t i (suc n) = eqb (tagAt h i) t || hasEntry h t (suc i) n
 
 -- how many of them stand before it: those at the front of a rising dictionary
 unfoldable pub rankAt : List ℕ → ℕ → ℕ → ℕ → ℕ
@@ -33,11 +33,11 @@ indexOf h t = rankAt h t 0 (get16 h 0)
 
 -- whether a tag is there, and at which entry
 unfoldable pub slotOf : List ℕ → ℕ → Slot
-slotOf h t = pick (entered h t 0 (get16 h 0)) (At (indexOf h t)) (Absent (indexOf h t))
+slotOf h t = pick (hasEntry h t 0 (get16 h 0)) (At (indexOf h t)) (Absent (indexOf h t))
 
 -- "each dictionary entry leads to a block's first cell bearing its tag": the block's first cell and its record count
 unfoldable pub slotBlock : List ℕ → Slot → TagBlock
-slotBlock h (At i) = Known (placeAt h i) (countAt h (placeAt h i))
+slotBlock h (At i) = Known (entryCell h i) (countAt h (entryCell h i))
 slotBlock h (Absent i) = Unknown
 
 unfoldable pub blockOf : List ℕ → ℕ → TagBlock

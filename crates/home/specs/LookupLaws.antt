@@ -14,7 +14,7 @@ use Rattle.home.specs.Zones.{Block, Zone, blocks, find}
 use Rattle.home.specs.Perm.{In, Pairs, after}
 use Rattle.home.specs.Valid.{Other}
 use Rattle.home.specs.Layout.{Sits, Valid}
-use Rattle.home.specs.Bytes.{Spot, spots, Entry, entryOf, dictionary, encode, cellAt, countAt, tagAt, placeAt, entriesAt}
+use Rattle.home.specs.Bytes.{Spot, spots, Entry, entryOf, dictionary, encode, cellAt, countAt, tagAt, entryCell, entriesAt}
 use Rattle.home.specs.Sound.{sound, Sound, listOf}
 use Rattle.home.specs.PermLaws.{psym, pulled, all-in, in-all, in-map, map-in, pin}
 use Rattle.home.specs.FindLaws.{pfind, find-here, find-none}
@@ -26,10 +26,10 @@ use Rattle.home.specs.EntriesLaws.{tag-count, home-entries}
 
 -- ---- entries by their number
 
-pub entry-in : (h : List ℕ) (i n j : ℕ) → i ≤ j → j < i + n → In (record { tag = tagAt h j; cell = placeAt h j }) (entriesAt h i n)
+pub entry-in : (h : List ℕ) (i n j : ℕ) → i ≤ j → j < i + n → In (record { tag = tagAt h j; cell = entryCell h j }) (entriesAt h i n)
 unfolding entriesAt
 entry-in h i zero j lo hi = absurd (omega arith)
-entry-in h i (suc n) j lo hi = by-eq j i (λ e. inl (ap (λ (k : ℕ). record { tag = tagAt h k; cell = placeAt h k }) e)) (λ d. inr (entry-in h (suc i) n j (omega arith) (omega arith)))
+entry-in h i (suc n) j lo hi = by-eq j i (λ e. inl (ap (λ (k : ℕ). record { tag = tagAt h k; cell = entryCell h k }) e)) (λ d. inr (entry-in h (suc i) n j (omega arith) (omega arith)))
 
 -- an entry has a number
 in-entry : (h : List ℕ) (i n : ℕ) (d : Entry) → In d (entriesAt h i n) → (j : ℕ) × (j < i + n) × (d .tag ≡ tagAt h j)
@@ -44,9 +44,9 @@ find-in b bs d i = let r = pulled b bs i in pfind (b .tag) (r .1) d ∙ find-her
 -- ---- the i-th entry of a sound home
 
 pub record Held (h : List ℕ) (i : ℕ) : Type 0 where
-  pub some : 0 < countAt h (placeAt h i)
-  pub inside : cellAt (placeAt h i) + 8 + 8 * countAt h (placeAt h i) ≤ length h
-  pub list : records h (cellAt (placeAt h i) + 8) (countAt h (placeAt h i)) ≡ listOf h (tagAt h i)
+  pub some : 0 < countAt h (entryCell h i)
+  pub inside : cellAt (entryCell h i) + 8 + 8 * countAt h (entryCell h i) ≤ length h
+  pub list : records h (cellAt (entryCell h i) + 8) (countAt h (entryCell h i)) ≡ listOf h (tagAt h i)
 
 module _ (R : ℕ) (zs : List Zone) (v : Valid (8 * R) zs) (small : R ≤ 1024) where
   abbrev home : List ℕ
@@ -55,7 +55,7 @@ module _ (R : ℕ) (zs : List Zone) (v : Valid (8 * R) zs) (small : R ≤ 1024) 
   home-held : (i : ℕ) → i < get16 home 0 → Held home i
   home-held i b =
       let t : ℕ = tagAt home i in
-      let p : ℕ = placeAt home i in
+      let p : ℕ = entryCell home i in
       let d : Entry = record { tag = t; cell = p } in
       let m = in-map entryOf d (spots 0 zs) (pin d (dictionary-perm zs) (subst (In d) (home-entries R zs v small) (entry-in home 0 (get16 home 0) i (omega arith) (omega arith)))) in
       let s : Spot = m .0 in
@@ -100,7 +100,7 @@ rising-at h i zero a b p lo m hi = absurd (omega arith)
 rising-at h i (suc n) a b (after x p) lo m hi =
     by-eq a i
     (λ e. subst (λ (k : ℕ). tagAt h k < tagAt h b) (sym e)
-    (all-in (Below (record { tag = tagAt h i; cell = placeAt h i })) (record { tag = tagAt h b; cell = placeAt h b }) (entriesAt h (suc i) n) x (entry-in h (suc i) n b (omega arith) (omega arith))))
+    (all-in (Below (record { tag = tagAt h i; cell = entryCell h i })) (record { tag = tagAt h b; cell = entryCell h b }) (entriesAt h (suc i) n) x (entry-in h (suc i) n b (omega arith) (omega arith))))
     (λ d. rising-at h (suc i) n a b p (omega arith) m (omega arith))
 
 pub entries-rise : (h : List ℕ) (i j : ℕ) → sound h ≡ true → i < j → j < get16 h 0 → tagAt h i < tagAt h j

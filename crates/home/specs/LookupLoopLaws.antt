@@ -14,7 +14,7 @@ use Rattle.home.specs.Cases.{by-pick}
 use Rattle.home.specs.Bytes.{tagAt}
 use Rattle.home.specs.Sound.{sound}
 use Rattle.home.specs.LookupLaws.{entries-rise, entries-few}
-use Rattle.home.specs.Lookup.{Ordered, entered, rankAt, slotOf}
+use Rattle.home.specs.Lookup.{Ordered, hasEntry, rankAt, slotOf}
 
 -- a sound home's dictionary
 pub sound-ordered : (h : List ℕ) → sound h ≡ true → Ordered h
@@ -63,23 +63,23 @@ module _ (h : List ℕ) (t : ℕ) where
       (λ d. omega (arith, rank-under (suc i) n m (omega arith) (omega arith) g)))
       (λ q. omega arith)
 
-  entered-at : (i n j : ℕ) → i ≤ j → j < i + n → tagAt h j ≡ t → entered h t i n ≡ true
-  unfolding entered
-  entered-at i zero j a b e = absurd (omega arith)
-  entered-at i (suc n) j a b e =
+  has-entry-at : (i n j : ℕ) → i ≤ j → j < i + n → tagAt h j ≡ t → hasEntry h t i n ≡ true
+  unfolding hasEntry
+  has-entry-at i zero j a b e = absurd (omega arith)
+  has-entry-at i (suc n) j a b e =
       by-test (eqb (tagAt h i) t)
       (λ q. rw q)
-      (λ q. rw q (entered-at (suc i) n j (by-eq j i (λ d. absurd (eqb-false (tagAt h i) t q (ap (tagAt h) (sym d) ∙ e))) (λ d. omega arith)) (omega arith) e))
+      (λ q. rw q (has-entry-at (suc i) n j (by-eq j i (λ d. absurd (eqb-false (tagAt h i) t q (ap (tagAt h) (sym d) ∙ e))) (λ d. omega arith)) (omega arith) e))
 
-  entered-none : (i n : ℕ) → ((j : ℕ) → i ≤ j → j < i + n → tagAt h j ≡ t → ⊥) → entered h t i n ≡ false
-  unfolding entered
-  entered-none i zero f = refl
-  entered-none i (suc n) f =
+  has-entry-none : (i n : ℕ) → ((j : ℕ) → i ≤ j → j < i + n → tagAt h j ≡ t → ⊥) → hasEntry h t i n ≡ false
+  unfolding hasEntry
+  has-entry-none i zero f = refl
+  has-entry-none i (suc n) f =
       rw (ne-eqb (tagAt h i) t (f i (omega arith) (omega arith)))
-      (entered-none (suc i) n (λ j a b. f j (omega arith) (omega arith)))
+      (has-entry-none (suc i) n (λ j a b. f j (omega arith) (omega arith)))
 
-  entered-not : (i n : ℕ) → entered h t i n ≡ false → (j : ℕ) → i ≤ j → j < i + n → tagAt h j ≡ t → ⊥
-  entered-not i n e j a b q = let z : _≡_ {A = Bool} false true = sym e ∙ entered-at i n j a b q in never z
+  has-entry-not : (i n : ℕ) → hasEntry h t i n ≡ false → (j : ℕ) → i ≤ j → j < i + n → tagAt h j ≡ t → ⊥
+  has-entry-not i n e j a b q = let z : _≡_ {A = Bool} false true = sym e ∙ has-entry-at i n j a b q in never z
 
 -- ---- the search
 
@@ -101,11 +101,11 @@ module _ (h : List ℕ) (t : ℕ) where
   pub find-end : (i : ℕ) → rankAt h t 0 (get16 h 0) ≡ i → i ≡ get16 h 0 → Absent i ≡ slotOf h t
   unfolding slotOf
   find-end i r e =
-      rw (entered-none h t 0 (get16 h 0) (λ j a b q. omega (arith, rank-low h t 0 (get16 h 0) j a (omega arith))), r)
+      rw (has-entry-none h t 0 (get16 h 0) (λ j a b q. omega (arith, rank-low h t 0 (get16 h 0) j a (omega arith))), r)
 
   pub find-at : (i : ℕ) → rankAt h t 0 (get16 h 0) ≡ i → i < get16 h 0 → tagAt h i ≡ t → At i ≡ slotOf h t
   unfolding slotOf
-  find-at i r a e = rw (entered-at h t 0 (get16 h 0) i (omega arith) (omega arith) e, r)
+  find-at i r a e = rw (has-entry-at h t 0 (get16 h 0) i (omega arith) (omega arith) e, r)
 
   pub find-absent : Ordered h → (i : ℕ) → rankAt h t 0 (get16 h 0) ≡ i → i < get16 h 0 → (tagAt h i ≡ t → ⊥) → Absent i ≡ slotOf h t
   unfolding slotOf
@@ -113,7 +113,7 @@ module _ (h : List ℕ) (t : ℕ) where
       let e : 0 + rankAt h t 0 (get16 h 0) ≡ i = omega arith in
       let g : t ≤ tagAt h i = rw e at (rank-high h t 0 (get16 h 0) (omega arith)) in
       rw (
-        entered-none h t 0 (get16 h 0) (λ j x y q.
+        has-entry-none h t 0 (get16 h 0) (λ j x y q.
             by-lt j i
             (λ l. omega (arith, rank-low h t 0 (get16 h 0) j x (omega arith)))
             (λ l. by-eq j i (λ f. d (ap (tagAt h) (sym f) ∙ q)) (λ f. let u = o .rise i j (omega arith) (omega arith) in d (omega arith)))),
@@ -139,6 +139,6 @@ slot-at h t i o e =
 pub slot-absent : (h : List ℕ) (t i : ℕ) → slotOf h t ≡ Absent i → (j : ℕ) → j < get16 h 0 → t ≢ tagAt h j
 unfolding slotOf
 slot-absent h t i e j a q =
-    by-test (entered h t 0 (get16 h 0))
+    by-test (hasEntry h t 0 (get16 h 0))
     (λ u. clash i (rankAt h t 0 (get16 h 0)) (sym (rw u at e)))
-    (λ u. entered-not h t 0 (get16 h 0) u j (omega arith) (omega arith) (sym q))
+    (λ u. has-entry-not h t 0 (get16 h 0) u j (omega arith) (omega arith) (sym q))

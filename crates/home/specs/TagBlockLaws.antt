@@ -14,7 +14,7 @@ use Rattle.records.specs.Edits.{encode-records}
 use Rattle.home.specs.declared.lookup.Slot.{Slot}
 use Rattle.home.specs.declared.lookup.Slot.the-variants.{At, Absent}
 use Rattle.home.specs.declared.lookup.TagBlock.the-variants.{Known, Unknown}
-use Rattle.home.specs.Bytes.{cellAt, listAt, countAt, tagAt, placeAt}
+use Rattle.home.specs.Bytes.{cellAt, listAt, countAt, tagAt, entryCell}
 use Rattle.home.specs.Sound.{sound, listOf}
 use Rattle.home.specs.LookupLaws.{Held, entry-held, unknown-tag, sound-short}
 use Rattle.home.specs.Lookup.{slotOf, slotBlock, blockOf, behindHeader, offsetOf}
@@ -24,7 +24,7 @@ use Rattle.home.specs.LookupLoopLaws.{sound-ordered, slot-at, slot-absen
 pub record Entered (h : List ℕ) (t p n : ℕ) : Type 0 where
   pub entry : ℕ
   pub slot : slotOf h t ≡ At entry
-  pub cell : p ≡ placeAt h entry
+  pub cell : p ≡ entryCell h entry
   pub count : n ≡ countAt h p
 
 pub block-entered : (h : List ℕ) (t p n : ℕ) → blockOf h t ≡ Known p n → Entered h t p n
@@ -33,8 +33,8 @@ block-entered h t p n e = go (slotOf h t) refl e
   where
     go : (x : Slot) → slotOf h t ≡ x → slotBlock h x ≡ Known p n → Entered h t p n
     go (At i) q f =
-        let a : p ≡ placeAt h i = cc in
-        let b : n ≡ countAt h (placeAt h i) = cc in
+        let a : p ≡ entryCell h i = cc in
+        let b : n ≡ countAt h (entryCell h i) = cc in
         record { entry = i; slot = q; cell = a; count = b ∙ ap (countAt h) (sym a) }
     go (Absent i) q f = let z : _≡_ {A = ℕ} 0 1 = cc in absurd (omega arith)
 
@@ -57,7 +57,7 @@ pub record ListAt (h : List ℕ) (t p n : ℕ) : Type 0 where
 pub list-at : (h : List ℕ) (t p n : ℕ) → sound h ≡ true → blockOf h t ≡ Known p n → ListAt h t p n
 list-at h t p n s e = let d : Entered h t p n = block-entered h t p n e in go (d .entry) (d .slot) (d .cell) (d .count ∙ ap (countAt h) (d .cell))
   where
-    go : (i : ℕ) → slotOf h t ≡ At i → p ≡ placeAt h i → n ≡ countAt h (placeAt h i) → ListAt h t p n
+    go : (i : ℕ) → slotOf h t ≡ At i → p ≡ entryCell h i → n ≡ countAt h (entryCell h i) → ListAt h t p n
     go i q ep en =
         let a = slot-at h t i (sound-ordered h s) q in
         let k : Held h i = entry-held h i s (a .0) in
@@ -87,7 +87,7 @@ list-none h t s e = unknown-tag h t s (unknown-absent h t e)
 -- ---- what the code finds
 
 -- an entry's block lies in home
-pub entry-inside : (h : List ℕ) (i : ℕ) → sound h ≡ true → i < get16 h 0 → (i < 256) × (1664 ≤ length h) × (cellAt (placeAt h i) + 8 ≤ length h)
+pub entry-inside : (h : List ℕ) (i : ℕ) → sound h ≡ true → i < get16 h 0 → (i < 256) × (1664 ≤ length h) × (cellAt (entryCell h i) + 8 ≤ length h)
 entry-inside h i s g = let o = sound-ordered h s in (omega (arith, o .few), o .long, omega (arith, entry-held h i s g .inside))
 
 pub slot-under : (h : List ℕ) (t i : ℕ) → sound h ≡ true → slotOf h t ≡ At i → i < get16 h 0

@@ -1,7 +1,10 @@
 // The classes of blocks: the records that each has room for, its size, and the class of a number of records.
 ghost use mathlib.Core.Path.{_≡_};
 ghost use Prim.Native.Nat.{_≤_, _<_};
-ghost use Rattle.home.specs.Capacities.{capacity as capacityOf, cells as cellsOf, classOf, short};
+ghost use Rattle.home.specs.Capacities.{capacity as capacityOf, under as underOf, cells as cellsOf, classOf, short};
+
+// The bytes of the longest list, 989 records.
+pub const LONGEST_LIST: usize = 7912;
 
 // The smallest class whose capacity is at least n, for n from 0 to 989.
 const CLASSES: [u8; 990] =
@@ -48,6 +51,17 @@ pub fn capacity(c: usize) -> usize
         28 => 830,
         _ => 989,
     }
+}
+
+// What the class below c has room for, 0 for the lowest class: a list of class c has more records.
+pub fn under(c: usize) -> usize
+    requires { ⌜ c < 30 ⌝ }
+    ensures { λ r. ⌜ r ≡ underOf c ⌝ }
+{
+    if c == 0 {
+        return 0;
+    }
+    capacity(c - 1)
 }
 
 // The size of a block.

@@ -7,3 +7,6 @@ pub enum Answer {
     Count(usize),
     Refused(u8),
 }
+
+// Where the record area begins in home.
+pub const AREA: usize = 1664;

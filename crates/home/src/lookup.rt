@@ -1,4 +1,5 @@
 // Reading home: zones, the dictionary, and a tag's list.
+use crate::AREA;
 use crate::classes::cells;
 ghost use mathlib.Core.Path.{_≡_};
 ghost use mathlib.Core.Bool.{true};
@@ -90,7 +91,7 @@ fn block_at(home: &[u8], i: usize) -> TagBlock
     ensures { λ r. ⌜ r ≡ slotBlock (now (home .entry)) (Slot.At i) ⌝ }
 {
     let p = wire::get16(home, 128 + 6 * i + 4);
-    let n = wire::get16(home, 1664 + 8 * p + 4);
+    let n = wire::get16(home, AREA + 8 * p + 4);
     TagBlock::Known(p, n)
 }
 
@@ -124,7 +125,7 @@ pub fn list(home: &[u8], tag: u32) -> &[u8]
 {
     match block_of(home, tag) {
         TagBlock::Known(p, n) => {
-            let at = 1664 + 8 * p + 8;
+            let at = AREA + 8 * p + 8;
             let end = at + 8 * n;
             &home[at..end]
         }

@@ -12,7 +12,7 @@ use Rattle.wire.specs.RulesLaws.{first-behind, first-refused, first-passed, ref
 use Rattle.redo.specs.Image.{capacity, pages, homeAt, home}
 use Rattle.redo.specs.ImageLaws.{head-right, length-home}
 use Rattle.redo.specs.Stores.{commitStores}
-use Rattle.log.specs.Calls.{Plan, refuse, store, changed, imageRules, commitRules, commitPlan, anyBytes}
+use Rattle.log.specs.Calls.{Plan, refuse, store, changedPages, imageRules, commitRules, commitPlan, anyBytes}
 use Rattle.home.specs.Sound.{sound}
 use Rattle.gates.specs.declared.Of.the-variants.{Image}
 use Rattle.gates.specs.Gates.{gateRules}
@@ -20,7 +20,7 @@ use Rattle.gates.specs.GatesLaws.{image-open}
 
 module _ (l w : List ℕ) where
   abbrev stores : Plan
-  stores = store (commitStores (homeAt l) (changed l w))
+  stores = store (commitStores (homeAt l) (changedPages l w))
 
   -- 1, 3 and 5
   pub commit-refused : (n : ℕ) → refusal (gateRules Image l) ≡ some n → commitPlan sound l w ≡ refuse n
@@ -33,7 +33,7 @@ module _ (l w : List ℕ) where
 
     -- 6, 7 and 13 are left
     abbrev others : List Rule
-    others = rule 6 (not (eqb (length w) (64 * pages l))) ∷ rule 7 (not (sound w)) ∷ rule 13 (ltb (capacity l) (length (changed l w))) ∷ []
+    others = rule 6 (not (eqb (length w) (64 * pages l))) ∷ rule 7 (not (sound w)) ∷ rule 13 (ltb (capacity l) (length (changedPages l w))) ∷ []
 
     opened : commitPlan sound l w ≡ first refuse others stores
     unfolding commitPlan commitRules gateRules

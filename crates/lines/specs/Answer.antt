@@ -19,7 +19,7 @@ use Rattle.lines.specs.declared.Reply.the-variants.{Fine, No}
 use Rattle.lines.specs.declared.Printed.{Printed}
 use Rattle.lines.specs.declared.Printed.the-variants.{Bytes, Short}
 use Rattle.parse.specs.Grammar.{parsed}
-use Rattle.print.specs.Print.{listLines, okLine, noLine, badLine}
+use Rattle.print.specs.Print.{listLines, longest, okLine, noLine, badLine}
 use Rattle.lines.specs.Run.{replyOf, imageOf, leftOf}
 
 -- an answer to an edit
@@ -71,7 +71,7 @@ lineSpace Bad l w = w
 
 -- an output too short: shorter than the longest answer, 20 bytes and 25 for each of 989 records
 abbrev pub roomy : List ℕ → Bool
-roomy out = leb 24745 (length out)
+roomy out = leb longest (length out)
 
 unfoldable pub printedOf : List ℕ → List ℕ → List ℕ → List ℕ → Printed
 unfolding lineText parsed

@@ -21,7 +21,7 @@ use Rattle.reads.specs.Reads.{listIn, countIn, showIn}
 use Rattle.reads.specs.ReadsLaws.{show-open}
 use Rattle.reads.specs.MergesLaws.{sound-listed, list-reads}
 use Rattle.parse.specs.declared.Command.{Command}
-use Rattle.print.specs.Print.{listLines, noLine}
+use Rattle.print.specs.Print.{listLines, longest, noLine}
 use Rattle.lines.specs.declared.Printed.the-variants.{Bytes, Short}
 use Rattle.parse.specs.Grammar.{parsed}
 use Rattle.lines.specs.Run.{replyOf, imageOf, leftOf}
@@ -69,12 +69,12 @@ module _ (l w : List ℕ) (c : Command) where
 -- ---- a line
 
 module _ (l w line out : List ℕ) where
-  pub answer-short : length out < 24745 → (Short ≡ printedOf l w line out) × (out ≡ outOf l w line out) × (l ≡ imageAfter l w line out) × (w ≡ spaceAfter l w line out)
+  pub answer-short : length out < longest → (Short ≡ printedOf l w line out) × (out ≡ outOf l w line out) × (l ≡ imageAfter l w line out) × (w ≡ spaceAfter l w line out)
   unfolding printedOf outOf imageAfter spaceAfter
-  answer-short g = rw (lt-leb 24745 (length out) g) (refl, refl, refl, refl)
+  answer-short g = rw (lt-leb longest (length out) g) (refl, refl, refl, refl)
 
-  pub answer-roomy : (n : ℕ) (l₂ w₂ out₂ : List ℕ) → 24745 ≤ length out → out₂ ≡ over out 0 (lineText (parsed line) l w) → n ≡ length (lineText (parsed line) l w)
+  pub answer-roomy : (n : ℕ) (l₂ w₂ out₂ : List ℕ) → longest ≤ length out → out₂ ≡ over out 0 (lineText (parsed line) l w) → n ≡ length (lineText (parsed line) l w)
       → l₂ ≡ lineImage (parsed line) l w → w₂ ≡ lineSpace (parsed line) l w
       → (Bytes n ≡ printedOf l w line out) × (out₂ ≡ outOf l w line out) × (l₂ ≡ imageAfter l w line out) × (w₂ ≡ spaceAfter l w line out)
   unfolding printedOf outOf imageAfter spaceAfter
-  answer-roomy n l₂ w₂ out₂ g o k i s = rw (le-leb 24745 (length out) g) (ap Bytes k, o, i, s)
+  answer-roomy n l₂ w₂ out₂ g o k i s = rw (le-leb longest (length out) g) (ap Bytes k, o, i, s)

@@ -19,7 +19,7 @@ use Rattle.redo.specs.Store.{Store}
 use Rattle.redo.specs.Stores.{commitStores}
 use Rattle.redo.specs.StoresLaws.{length-commit}
 use Rattle.log.specs.declared.Outcome.the-variants.{Cut}
-use Rattle.log.specs.Calls.{Plan, refuse, store, answer, after, changed, commitRules, commitPlan}
+use Rattle.log.specs.Calls.{Plan, refuse, store, answer, after, changedPages, commitRules, commitPlan}
 use Rattle.log.specs.Logged.{long-changes}
 use Rattle.home.specs.Sound.{sound}
 use Rattle.home.specs.declared.Answer.{Answer}
@@ -69,18 +69,18 @@ module _ (l w : List ℕ) (c : Command) where
 -- ---- no commit needs more stores than are allowed
 
 -- 130 for each of at most 1,050 pages, and 4
-few-stores : (l w : List ℕ) → headOk l ≡ true → length w ≡ 64 * pages l → length (changed l w) ≤ capacity l → length (commitStores (homeAt l) (changed l w)) ≤ plenty
+few-stores : (l w : List ℕ) → headOk l ≡ true → length w ≡ 64 * pages l → length (changedPages l w) ≤ capacity l → length (commitStores (homeAt l) (changedPages l w)) ≤ plenty
 unfolding commitStores
-few-stores l w ok long fit = go (changed l w) refl
+few-stores l w ok long fit = go (changedPages l w) refl
   where
-    go : (es : List Entry) → changed l w ≡ es → length (commitStores (homeAt l) es) ≤ plenty
+    go : (es : List Entry) → changedPages l w ≡ es → length (commitStores (homeAt l) es) ≤ plenty
     go [] q = omega arith
     go (x ∷ es) q =
         let r = head-right l ok in
         omega (arith, r .sizes .few-log, r .sizes .few-pages, ap length q, length-commit (homeAt l) (x ∷ es) (omega arith) (subst (All Long) q (long-changes l w ok long fit)))
 
 -- one that is not refused
-few-unrefused : (l w : List ℕ) → refusal (commitRules sound l w) ≡ none → length (commitStores (homeAt l) (changed l w)) ≤ plenty
+few-unrefused : (l w : List ℕ) → refusal (commitRules sound l w) ≡ none → length (commitStores (homeAt l) (changedPages l w)) ≤ plenty
 unfolding commitRules gateRules
 few-unrefused l w e =
     let g = passes-both (gateRules Image l) _ e in
@@ -91,7 +91,7 @@ few-unrefused l w e =
 pub never-cut : (l w : List ℕ) (m : ℕ) → answer (commitPlan sound l w) plenty ≢ Cut m
 unfolding commitPlan answer
 never-cut l w m e =
-    let ss : List Store = commitStores (homeAt l) (changed l w) in
+    let ss : List Store = commitStores (homeAt l) (changedPages l w) in
     by-refusal (commitRules sound l w)
     (λ n q. let f = rw (first-refused refuse (commitRules sound l w) n (store ss) q) at e in let z : _≡_ {A = ℕ} 0 1 = cc in omega arith)
     (λ q. let f = rw (first-passed refuse (commitRules sound l w) (store ss) q, le-leb (length ss) plenty (few-unrefused l w q)) at e in let z : _≡_ {A = ℕ} 0 1 = cc in omega arith)

@@ -8,6 +8,7 @@ use parse::Command;
 use parse::Parsed;
 use parse::Word;
 use parse::parse;
+use print::LONGEST;
 use print::put_bad;
 use print::put_list;
 use print::put_no;
@@ -17,6 +18,7 @@ ghost use Prim.Native.Nat.{_≤_};
 ghost use lib.ListN.{length};
 ghost use Rattle.wire.specs.Bytes.{over};
 ghost use Rattle.parse.specs.Grammar.{parsed};
+ghost use Rattle.print.specs.Print.{longest};
 ghost use Rattle.lines.specs.Answer.{replyLine, listText, isShow, commandText, commandImage, commandSpace, lineText, lineImage, lineSpace, printedOf, outOf, imageAfter, spaceAfter};
 
 fn is_list(word: Word) -> bool
@@ -33,8 +35,8 @@ fn is_list(word: Word) -> bool
 
 // Prints what is replied to an edit.
 fn put_reply(out: &mut [u8], r: Reply) -> usize
-    requires { ⌜ 24745 ≤ length (now out) ⌝ }
-    ensures { λ n. ⌜ (now (out .exit) ≡ over (now (out .entry)) 0 (replyLine r)) × (n ≡ length (replyLine r)) × (n ≤ 24745) ⌝ }
+    requires { ⌜ longest ≤ length (now out) ⌝ }
+    ensures { λ n. ⌜ (now (out .exit) ≡ over (now (out .entry)) 0 (replyLine r)) × (n ≡ length (replyLine r)) × (n ≤ longest) ⌝ }
 {
     match r {
         Reply::Fine => put_ok(out),
@@ -44,8 +46,8 @@ fn put_reply(out: &mut [u8], r: Reply) -> usize
 
 // Prints a tag's list in an image, or its refusal.
 fn put_listing(image: &[u8], tag: u32, out: &mut [u8]) -> usize
-    requires { ⌜ 24745 ≤ length (now out) ⌝ }
-    ensures { λ n. ⌜ (now (out .exit) ≡ over (now (out .entry)) 0 (listText (now (image .entry)) tag)) × (n ≡ length (listText (now (image .entry)) tag)) × (n ≤ 24745) ⌝ }
+    requires { ⌜ longest ≤ length (now out) ⌝ }
+    ensures { λ n. ⌜ (now (out .exit) ≡ over (now (out .entry)) 0 (listText (now (image .entry)) tag)) × (n ≡ length (listText (now (image .entry)) tag)) × (n ≤ longest) ⌝ }
 {
     match reads::count(Of::Image, image, tag) {
         Answer::Count(_) => {
@@ -58,8 +60,8 @@ fn put_listing(image: &[u8], tag: u32, out: &mut [u8]) -> usize
 
 // Does what a command says, and prints its answer.
 fn answer_command(image: &mut [u8], space: &mut [u8], c: Command, out: &mut [u8]) -> usize
-    requires { ⌜ 24745 ≤ length (now out) ⌝ }
-    ensures { λ n. ⌜ (now (out .exit) ≡ over (now (out .entry)) 0 (commandText (now (image .entry)) (now (space .entry)) c)) × (n ≡ length (commandText (now (image .entry)) (now (space .entry)) c)) × (n ≤ 24745) ⌝ }
+    requires { ⌜ longest ≤ length (now out) ⌝ }
+    ensures { λ n. ⌜ (now (out .exit) ≡ over (now (out .entry)) 0 (commandText (now (image .entry)) (now (space .entry)) c)) × (n ≡ length (commandText (now (image .entry)) (now (space .entry)) c)) × (n ≤ longest) ⌝ }
     ensures { λ _. ⌜ (now (image .exit) ≡ commandImage (now (image .entry)) (now (space .entry)) c) × (now (space .exit) ≡ commandSpace (now (image .entry)) (now (space .entry)) c) ⌝ }
 {
     let word = c.word;
@@ -72,8 +74,8 @@ fn answer_command(image: &mut [u8], space: &mut [u8], c: Command, out: &mut [u8]
 
 // Answers a line, where the output has room for the longest answer.
 pub fn answer_line(image: &mut [u8], space: &mut [u8], line: &[u8], out: &mut [u8]) -> usize
-    requires { ⌜ 24745 ≤ length (now out) ⌝ }
-    ensures { λ n. ⌜ (now (out .exit) ≡ over (now (out .entry)) 0 (lineText (parsed (now (line .entry))) (now (image .entry)) (now (space .entry)))) × (n ≡ length (lineText (parsed (now (line .entry))) (now (image .entry)) (now (space .entry)))) × (n ≤ 24745) ⌝ }
+    requires { ⌜ longest ≤ length (now out) ⌝ }
+    ensures { λ n. ⌜ (now (out .exit) ≡ over (now (out .entry)) 0 (lineText (parsed (now (line .entry))) (now (image .entry)) (now (space .entry)))) × (n ≡ length (lineText (parsed (now (line .entry))) (now (image .entry)) (now (space .entry)))) × (n ≤ longest) ⌝ }
     ensures { λ _. ⌜ (now (image .exit) ≡ lineImage (parsed (now (line .entry))) (now (image .entry)) (now (space .entry))) × (now (space .exit) ≡ lineSpace (parsed (now (line .entry))) (now (image .entry)) (now (space .entry))) ⌝ }
 {
     match parse(line) {
@@ -87,7 +89,7 @@ pub fn answer(image: &mut [u8], space: &mut [u8], line: &[u8], out: &mut [u8]) -
     ensures { λ r. ⌜ (r ≡ printedOf (now (image .entry)) (now (space .entry)) (now (line .entry)) (now (out .entry))) × (now (out .exit) ≡ outOf (now (image .entry)) (now (space .entry)) (now (line .entry)) (now (out .entry))) ⌝ }
     ensures { λ _. ⌜ (now (image .exit) ≡ imageAfter (now (image .entry)) (now (space .entry)) (now (line .entry)) (now (out .entry))) × (now (space .exit) ≡ spaceAfter (now (image .entry)) (now (space .entry)) (now (line .entry)) (now (out .entry))) ⌝ }
 {
-    if out.len() < 24745 {
+    if out.len() < LONGEST {
         return Printed::Short;
     }
     Printed::Bytes(answer_line(image, space, line, out))

@@ -48,12 +48,12 @@ rewritten-known : (R : ℕ) (h : List ℕ) (zs : List Zone) (t c p : ℕ) (k : K
     → over h (cellAt p) (blockBytes c (record { tag = t; list = rs })) ≡ encode R (rewritten t rs zs)
 rewritten-known R h zs t c p k rs v =
     let b : Block = record { tag = t; list = rs } in
-    let e : rewritten t rs zs ≡ k .lower ++ zone (k .first) (k .before ++ b ∷ k .behind) ∷ k .higher =
-    ap (rewritten t rs) (k .is) ∙ rewritten-there t (k .block) (k .tag) (k .behind) (k .first) (k .before) (k .none-before) rs (k .lower) (k .higher) (k .none-lower) in
-    let q : k .first + length (k .before) * cells (length (k .lower)) ≡ p = ap (λ (d : ℕ). k .first + length (k .before) * cells d) (k .class) ∙ k .cell in
+    let e : rewritten t rs zs ≡ k .found .lower ++ zone (k .found .first) (k .found .before ++ b ∷ k .found .behind) ∷ k .found .higher =
+    ap (rewritten t rs) (k .found .is) ∙ rewritten-there t (k .found .block) (k .found .tag) (k .found .behind) (k .found .first) (k .found .before) (k .found .none-before) rs (k .found .lower) (k .found .higher) (k .found .none-lower) in
+    let q : k .found .first + length (k .found .before) * cells (length (k .found .lower)) ≡ p = ap (λ (d : ℕ). k .found .first + length (k .found .before) * cells d) (k .class) ∙ k .cell in
     sym (ap (encode R) e
-    ∙ home-list-set R (k .pages) (k .lower) (k .first) (k .before) (k .block) b (k .behind) (k .higher) (k .tag) (subst (Loose R) (k .is) (k .loose)) (subst (Loose R) e v)
-    ∙ ap₂ (λ (x : List ℕ) (y : ℕ). over x (cellAt y) (blockBytes (length (k .lower)) b)) (sym (k .bytes ∙ ap (encode R) (k .is))) q
+    ∙ home-list-set R (k .pages) (k .found .lower) (k .found .first) (k .found .before) (k .found .block) b (k .found .behind) (k .found .higher) (k .found .tag) (subst (Loose R) (k .found .is) (k .loose)) (subst (Loose R) e v)
+    ∙ ap₂ (λ (x : List ℕ) (y : ℕ). over x (cellAt y) (blockBytes (length (k .found .lower)) b)) (sym (k .bytes ∙ ap (encode R) (k .found .is))) q
     ∙ ap (λ (d : ℕ). over h (cellAt p) (blockBytes d b)) (k .class))
 
 has-none : (t : ℕ) (bs : List Block) → Lacks t bs → hasTag t bs ≡ false

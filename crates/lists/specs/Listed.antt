@@ -23,7 +23,7 @@ pub record Listed (h : List ℕ) (t p n : ℕ) : Type 0 where
   pub block : blockOf h t ≡ Known p n
 
 -- a record that is not among them would have rank j there
-pub record Placed (h : List ℕ) (t p n j : ℕ) (r : Record) : Type 0 where
+pub record Missing (h : List ℕ) (t p n j : ℕ) (r : Record) : Type 0 where
   pub listed : Listed h t p n
   pub held : held (look (key r) (listOf h t)) ≡ false
   pub rank : rank (key r) (listOf h t) ≡ j

@@ -22,9 +22,9 @@ use Rattle.lists.specs.ListsLaws.{block-list}
 use Rattle.lists.specs.Listed.{Listed}
 
 -- the list of a tag's block is what is found
-known-list : (R : ℕ) (h : List ℕ) (zs : List Zone) (t c p : ℕ) (k : Known R h zs t c p) → k .block .list ≡ find t (blocks zs)
-known-list R h zs t c p k = sym (ap (λ (l : List Zone). find t (blocks l)) (k .is)
-    ∙ find-there t (k .block) (k .tag) (k .behind) (k .first) (k .before) (k .none-before) (k .lower) (k .higher) (k .none-lower))
+known-list : (R : ℕ) (h : List ℕ) (zs : List Zone) (t c p : ℕ) (k : Known R h zs t c p) → k .found .block .list ≡ find t (blocks zs)
+known-list R h zs t c p k = sym (ap (λ (l : List Zone). find t (blocks l)) (k .found .is)
+    ∙ find-there t (k .found .block) (k .found .tag) (k .found .behind) (k .found .first) (k .found .before) (k .found .none-before) (k .found .lower) (k .found .higher) (k .found .none-lower))
 
 module _ (h : List ℕ) (t p n : ℕ) (l : Listed h t p n) where
   abbrev list : List Record
@@ -43,8 +43,8 @@ module _ (h : List ℕ) (t p n : ℕ) (l : Listed h t p n) where
   unfolding listOf
   listed-lying =
       let k : Known (pagesOf h) h (decode h) t (classOf n) p = listed-known in
-      let e : k .block .list ≡ list = known-list (pagesOf h) h (decode h) t (classOf n) p k in
-      let same : k .block ≡ record { tag = t; list = list } = λ i. record { tag = k .tag i; list = e i } in
+      let e : k .found .block .list ≡ list = known-list (pagesOf h) h (decode h) t (classOf n) p k in
+      let same : k .found .block ≡ record { tag = t; list = list } = λ i. record { tag = k .found .tag i; list = e i } in
       subst (Lying h (classOf n) p) same (known-lying (pagesOf h) h (decode h) t (classOf n) p k)
 
   pub listed-many : n ≡ length list

@@ -25,7 +25,7 @@ use Rattle.zones.specs.SoundLaws.{sound-valid}
 use Rattle.zones.specs.BlockLaws.{Lying}
 use Rattle.lists.specs.Lists.{grown, shrunk, insertedHere, removedHere, setHere}
 use Rattle.lists.specs.ListsLaws.{rank-held, length-remove, insert-aside-is, remove-aside-is, insert-here-is, remove-here-is, set-here-is}
-use Rattle.lists.specs.Listed.{Listed, Placed, Ranked, Moving, changed, without}
+use Rattle.lists.specs.Listed.{Listed, Missing, Ranked, Moving, changed, without}
 use Rattle.lists.specs.ListedLaws.{listed-has, listed-lying, listed-many, listed-some, listed-most}
 use Rattle.lists.specs.ChangedLaws.{list-read, changed-here, changed-none}
 
@@ -106,7 +106,7 @@ module _ (h : List ℕ) (t p n j : ℕ) (k : Ranked h t p n j) where
 
 -- ---- put in
 
-module _ (h : List ℕ) (t p n j : ℕ) (r : Record) (k : Placed h t p n j r) where
+module _ (h : List ℕ) (t p n j : ℕ) (r : Record) (k : Missing h t p n j r) where
   abbrev old : List Record
   old = listOf h t
 
@@ -119,8 +119,8 @@ module _ (h : List ℕ) (t p n j : ℕ) (r : Record) (k : Placed h t p n j r) wh
   count : n ≡ length old
   count = listed-many h t p n (k .listed)
 
-  pub placed-under : j ≤ n
-  placed-under = omega (arith, rank-length (key r) old, k .rank, count)
+  pub missing-under : j ≤ n
+  missing-under = omega (arith, rank-length (key r) old, k .rank, count)
 
   pub new-many : length new ≡ n + 1
   new-many = length-insert r old ∙ omega (arith, count)

@@ -2,7 +2,9 @@
 use crate::here::insert_aside;
 use crate::here::remove_aside;
 use crate::here::remove_here;
+use home::classes::LONGEST_LIST;
 use home::classes::class_of;
+use home::classes::under;
 use records::Record;
 use zones::afresh::settle;
 use zones::take::take_out;
@@ -17,7 +19,7 @@ ghost use Rattle.home.specs.Bytes.{decode};
 ghost use Rattle.home.specs.Sound.{pagesOf, listOf};
 ghost use Rattle.home.specs.Layout.{change};
 ghost use Rattle.wire.specs.Bytes.{isSome};
-ghost use Rattle.lists.specs.Listed.{Ranked, Placed, Moving, changed, without};
+ghost use Rattle.lists.specs.Listed.{Ranked, Missing, Moving, changed, without};
 
 // The tag's list becomes this one, in a block of another class, for which there is room.
 fn move_list(home: &mut [u8], tag: u32, p: usize, n: usize, list: &[u8])
@@ -38,7 +40,7 @@ pub fn insert_moving(
     r: Record,
     aside: &mut [u8],
 )
-    requires { ⌜ Placed (now home) tag p n j r × (n < 989) × (classOf (n + 1) ≢ classOf n) × (8 * (n + 1) ≤ length (now aside)) ⌝ }
+    requires { ⌜ Missing (now home) tag p n j r × (n < 989) × (classOf (n + 1) ≢ classOf n) × (8 * (n + 1) ≤ length (now aside)) ⌝ }
     requires { ⌜ isSome (change (8 * pagesOf (now home)) tag (inserted r (listOf (now home) tag)) (decode (now home))) ≡ true ⌝ }
     ensures { λ _. ⌜ now (home .exit) ≡ changed (now (home .entry)) tag (inserted r (listOf (now (home .entry)) tag)) ⌝ }
 {
@@ -65,10 +67,10 @@ pub fn remove_record(home: &mut [u8], tag: u32, p: usize, n: usize, j: usize)
     let c = class_of(n);
     if n == 1 {
         take_out(home, tag, c, p);
-    } else if class_of(n - 1) == c {
+    } else if under(c) < n - 1 {
         remove_here(home, p, n, j);
     } else {
-        let mut aside = [0; 7912];
+        let mut aside = [0; LONGEST_LIST];
         remove_moving(home, tag, p, n, j, &mut aside);
     }
 }

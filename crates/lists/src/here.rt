@@ -1,4 +1,5 @@
 // A tag's list changed where its block lies, and the changed list made aside for a block of another class.
+use home::AREA;
 use records::Record;
 ghost use mathlib.Core.Path.{_≡_};
 ghost use Prim.Native.Nat.{_+_, _-_, _*_, _≤_, _<_};
@@ -11,10 +12,10 @@ pub fn insert_here(home: &mut [u8], p: usize, n: usize, j: usize, r: Record)
     requires { ⌜ (j ≤ n) × (listAt p + 8 * (n + 1) ≤ length (now home)) ⌝ }
     ensures { λ _. ⌜ now (home .exit) ≡ insertedHere (now (home .entry)) p n j r ⌝ }
 {
-    let at = 1664 + 8 * p + 8;
+    let at = AREA + 8 * p + 8;
     let end = at + 8 * (n + 1);
     records::insert(&mut home[at..end], j, r);
-    wire::put16(home, 1664 + 8 * p + 4, n + 1);
+    wire::put16(home, AREA + 8 * p + 4, n + 1);
 }
 
 // Takes the record at rank j out of the n records of the block at cell p.
@@ -22,10 +23,10 @@ pub fn remove_here(home: &mut [u8], p: usize, n: usize, j: usize)
     requires { ⌜ (j < n) × (listAt p + 8 * n ≤ length (now home)) ⌝ }
     ensures { λ _. ⌜ now (home .exit) ≡ removedHere (now (home .entry)) p n j ⌝ }
 {
-    let at = 1664 + 8 * p + 8;
+    let at = AREA + 8 * p + 8;
     let end = at + 8 * n;
     records::remove(&mut home[at..end], j);
-    wire::put16(home, 1664 + 8 * p + 4, n - 1);
+    wire::put16(home, AREA + 8 * p + 4, n - 1);
 }
 
 // Sets the minutes of the record at rank j of the n records of the block at cell p.
@@ -33,7 +34,7 @@ pub fn set_here(home: &mut [u8], p: usize, n: usize, j: usize, minutes: u8)
     requires { ⌜ (j < n) × (listAt p + 8 * n ≤ length (now home)) ⌝ }
     ensures { λ _. ⌜ now (home .exit) ≡ setHere (now (home .entry)) p n j minutes ⌝ }
 {
-    let at = 1664 + 8 * p + 8;
+    let at = AREA + 8 * p + 8;
     let end = at + 8 * n;
     records::set_minutes(&mut home[at..end], j, minutes);
 }
@@ -43,7 +44,7 @@ pub fn insert_aside(home: &[u8], p: usize, n: usize, j: usize, r: Record, out: &
     requires { ⌜ (j ≤ n) × (listAt p + 8 * n ≤ length (now home)) × (length (now out) ≡ 8 * (n + 1)) ⌝ }
     ensures { λ _. ⌜ now (out .exit) ≡ grown (now (home .entry)) p n j r ⌝ }
 {
-    let at = 1664 + 8 * p + 8;
+    let at = AREA + 8 * p + 8;
     let end = at + 8 * n;
     wire::copy(out, 0, &home[at..end]);
     records::insert(out, j, r);
@@ -54,7 +55,7 @@ pub fn remove_aside(home: &[u8], p: usize, n: usize, j: usize, out: &mut [u8])
     requires { ⌜ (j < n) × (listAt p + 8 * n ≤ length (now home)) × (length (now out) ≡ 8 * (n - 1)) ⌝ }
     ensures { λ _. ⌜ now (out .exit) ≡ shrunk (now (home .entry)) p n j ⌝ }
 {
-    let at = 1664 + 8 * p + 8;
+    let at = AREA + 8 * p + 8;
     let mid = at + 8 * j;
     let end = at + 8 * n;
     wire::copy(out, 0, &home[at..mid]);

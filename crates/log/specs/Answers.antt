@@ -23,7 +23,7 @@ use Rattle.redo.specs.StoresLaws.{length-recover}
 use Rattle.redo.specs.Stage.{Stage, Makes, stage-more}
 use Rattle.redo.specs.Stages.{commit-needs}
 use Rattle.log.specs.declared.Outcome.the-variants.{Done, Cut, Refused}
-use Rattle.log.specs.Calls.{Plan, refuse, store, answer, after, formatRules, formatPlan, logOf, logOk, recoverRules, recoverPlan, changed, commitRules, commitPlan, anyBytes}
+use Rattle.log.specs.Calls.{Plan, refuse, store, answer, after, formatRules, formatPlan, logOf, logOk, recoverRules, recoverPlan, changedPages, commitRules, commitPlan, anyBytes}
 
 -- ---- any call
 
@@ -112,17 +112,17 @@ module _ (l w : List ℕ) (ok : headOk l ≡ true) (m : mark l ≡ 0) where
   unfolding commitPlan commitRules first
   other-length f = rw (ok, m, ne-eqb (length w) (64 * pages l) f)
 
-  pub many-pages : length w ≡ 64 * pages l → capacity l < length (changed l w) → commitPlan anyBytes l w ≡ refuse 13
+  pub many-pages : length w ≡ 64 * pages l → capacity l < length (changedPages l w) → commitPlan anyBytes l w ≡ refuse 13
   unfolding commitPlan commitRules first
-  many-pages e g = rw (ok, m, eq-eqb (length w) (64 * pages l) e, lt-ltb (capacity l) (length (changed l w)) g)
+  many-pages e g = rw (ok, m, eq-eqb (length w) (64 * pages l) e, lt-ltb (capacity l) (length (changedPages l w)) g)
 
-  pub few-pages-is : length w ≡ 64 * pages l → length (changed l w) ≤ capacity l → commitPlan anyBytes l w ≡ store (commitStores (homeAt l) (changed l w))
+  pub few-pages-is : length w ≡ 64 * pages l → length (changedPages l w) ≤ capacity l → commitPlan anyBytes l w ≡ store (commitStores (homeAt l) (changedPages l w))
   unfolding commitPlan commitRules first
-  few-pages-is e g = rw (ok, m, eq-eqb (length w) (64 * pages l) e, le-ltb (capacity l) (length (changed l w)) g)
+  few-pages-is e g = rw (ok, m, eq-eqb (length w) (64 * pages l) e, le-ltb (capacity l) (length (changedPages l w)) g)
 
 module _ (l w : List ℕ) where
   -- the pages as the code finds them, from the sizes that it read
-  pub changed-is : (L R : ℕ) → L ≡ capacity l → R ≡ recordPages l → changes (drop (64 + 66 * L) l) w (26 + R) ≡ changed l w
+  pub changed-is : (L R : ℕ) → L ≡ capacity l → R ≡ recordPages l → changes (drop (64 + 66 * L) l) w (26 + R) ≡ changedPages l w
   unfolding home
   changed-is L R e f = rw (e, f)
 

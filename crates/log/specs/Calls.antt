@@ -70,16 +70,16 @@ recoverPlan l = first refuse (recoverRules l) (store (pick (eqb (mark l) 0) [] (
 -- ---- commit
 
 -- the k pages in which the workspace differs from home, rising
-abbrev pub changed : List ℕ → List ℕ → List Entry
-changed l w = changes (home l) w (pages l)
+abbrev pub changedPages : List ℕ → List ℕ → List Entry
+changedPages l w = changes (home l) w (pages l)
 
 -- 6 by the image's length, 7 by the same test as 5, "13: commit, k above L"
 unfoldable pub commitRules : (List ℕ → Bool) → List ℕ → List ℕ → List Rule
 unfolding imageRules
-commitRules accept l w = imageRules accept l ++ rule 6 (not (eqb (length w) (64 * pages l))) ∷ rule 7 (not (accept w)) ∷ rule 13 (ltb (capacity l) (length (changed l w))) ∷ []
+commitRules accept l w = imageRules accept l ++ rule 6 (not (eqb (length w) (64 * pages l))) ∷ rule 7 (not (accept w)) ∷ rule 13 (ltb (capacity l) (length (changedPages l w))) ∷ []
 
 unfoldable pub commitPlan : (List ℕ → Bool) → List ℕ → List ℕ → Plan
-commitPlan accept l w = first refuse (commitRules accept l w) (store (commitStores (homeAt l) (changed l w)))
+commitPlan accept l w = first refuse (commitRules accept l w) (store (commitStores (homeAt l) (changedPages l w)))
 
 -- the test of a log that knows pages only
 abbrev pub anyBytes : List ℕ → Bool

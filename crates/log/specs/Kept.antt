@@ -19,7 +19,7 @@ use Rattle.redo.specs.Entry.{Entry, changes, replay}
 use Rattle.redo.specs.EntryLaws.{home-becomes}
 use Rattle.redo.specs.Stores.{commitStores}
 use Rattle.log.specs.declared.Outcome.the-variants.{Done, Refused}
-use Rattle.log.specs.Calls.{refuse, store, answer, after, changed, recoverPlan, commitRules, commitPlan}
+use Rattle.log.specs.Calls.{refuse, store, answer, after, changedPages, recoverPlan, commitRules, commitPlan}
 use Rattle.log.specs.Answers.{not-store}
 use Rattle.log.specs.Book.{Call, commit, recover, allowance, value, planOf, Seen, seen, told, foretold, final, Book, start, differing, Verdict, refused, writes, bookRules, judge, commitNeed, needBy, recoverNeed, answerTo, logs, toldMark, recovering, committing, bookAt, next, bookAfter}
 use Rattle.log.specs.BookLaws.{need-clear, some-commit, recovering-done, committing-early, committing-mark, committing-late, by-recovering, book-passed, kept-passed}
@@ -124,7 +124,7 @@ module _ (accept : List ℕ → Bool) (L : ℕ) where
 starts : (accept : List ℕ → Bool) (l w : List ℕ) {ss : List Store} → commitPlan accept l w ≡ store ss → Starts accept l
 unfolding commitPlan commitRules
 starts accept l w {ss} is =
-    let e = unrefused refuse (commitRules accept l w) (store (commitStores (homeAt l) (changed l w))) (store ss) (not-store ss) is in
+    let e = unrefused refuse (commitRules accept l w) (store (commitStores (homeAt l) (changedPages l w))) (store ss) (not-store ss) is in
     let a = passes 1 (not (headOk l)) _ e in
     let b = passes 3 (not (eqb (mark l) 0)) _ (a .1) in
     let c = passes 5 (not (accept (home l))) _ (b .1) in
@@ -135,10 +135,10 @@ module _ (accept : List ℕ → Bool) (l w : List ℕ) {ss : List Store} (plan :
   begun : Starts accept l
   begun = starts accept l w plan
 
-  finds : Finds n v (length (changed l w)) (home l) w (bookOf accept l (commit w n v ∷ rs) .kept)
+  finds : Finds n v (length (changedPages l w)) (home l) w (bookOf accept l (commit w n v ∷ rs) .kept)
   unfolding bookAfter next bookAt start
   finds =
-      let k : ℕ = length (changed l w) in
+      let k : ℕ = length (changedPages l w) in
       let b : Book = start (home l) in
       let verdict : judge accept (capacity l) b w ≡ writes k = writes-changed accept l (begun .head) l b (begins accept l begun) refl refl refl w n v plan in
       by-eq k 0
@@ -151,7 +151,7 @@ module _ (accept : List ℕ → Bool) (l w : List ℕ) {ss : List Store} (plan :
       let e : bookOf accept l (commit w n v ∷ rs) ≡ bookAfter accept (capacity l) rs (committing b w k n v) = rw (verdict, ne-eqb k 0 z) in
       rw e (finds-book accept (capacity l) a b w k n v refl))
 
-  pub switched-off : Found n v (length (changed l w)) (home l) w (final accept (commit w n v ∷ rs) l)
+  pub switched-off : Found n v (length (changedPages l w)) (home l) w (final accept (commit w n v ∷ rs) l)
   switched-off =
       let c : Claim accept l (commit w n v ∷ rs) (bookOf accept l (commit w n v ∷ rs)) (final accept (commit w n v ∷ rs) l) = claim accept l begun (commit w n v ∷ rs) in
       record {

@@ -22,7 +22,7 @@ use Rattle.redo.specs.Stores.{clearMark, recoverStores, logStores}
 use Rattle.redo.specs.StoresLaws.{length-recover, log-count, log-entries}
 use Rattle.redo.specs.Stage.{take-min}
 use Rattle.redo.specs.Torn.{torn, torn-is, torn-all, torn-go, torn-again}
-use Rattle.log.specs.Calls.{store, answer, changed, after, logOf, logOk}
+use Rattle.log.specs.Calls.{store, answer, changedPages, after, logOf, logOk}
 use Rattle.log.specs.CallLaws.{spare-log, below-log, log-unmarked, log-right, SameLog, count-same, log-same, log-ok-same, Spares, spares-log, recover-spares, recover-any}
 use Rattle.log.specs.Book.{report, rest, caught, leftBy}
 
@@ -126,53 +126,53 @@ module _ (l W : List ℕ) (q : ℕ) (ok : headOk l ≡ true) (o : Logged l W q) 
 
 -- ---- a commit with the mark clear
 
-module _ (l w : List ℕ) (ok : headOk l ≡ true) (same : length w ≡ 64 * pages l) (fit : length (changed l w) ≤ capacity l) where
-  whole : All (Whole 65536) (changed l w)
+module _ (l w : List ℕ) (ok : headOk l ≡ true) (same : length w ≡ 64 * pages l) (fit : length (changedPages l w) ≤ capacity l) where
+  whole : All (Whole 65536) (changedPages l w)
   whole = let r = head-right l ok in all-map (λ e t. record { below = omega (arith, r .sizes); long = t .long }) (changes-whole (home l) w (pages l) (omega arith))
 
-  pub long-changes : All Long (changed l w)
+  pub long-changes : All Long (changedPages l w)
   long-changes = all-map (λ e t. t .long) whole
 
   -- its log, torn anywhere, keeps the head, and home
-  pub commit-torn : (n v : ℕ) → SameHead l (apply (torn n v (logStores (changed l w))) l)
+  pub commit-torn : (n v : ℕ) → SameHead l (apply (torn n v (logStores (changedPages l w))) l)
   commit-torn n v = head-kept l (torn-go (λ a. Fixed a → ⊥) n v (spare-log long-changes))
 
-  pub commit-stands : (n v : ℕ) → home (apply (torn n v (logStores (changed l w))) l) ≡ home l
+  pub commit-stands : (n v : ℕ) → home (apply (torn n v (logStores (changedPages l w))) l) ≡ home l
   unfolding home
   commit-stands n v =
-      ap (λ (k : ℕ). drop (64 + 66 * k) (apply (torn n v (logStores (changed l w))) l)) (capacity-same (commit-torn n v))
+      ap (λ (k : ℕ). drop (64 + 66 * k) (apply (torn n v (logStores (changedPages l w))) l)) (capacity-same (commit-torn n v))
       ∙ drop-kept (homeAt l) l (torn-go (λ a. a < homeAt l) n v (below-log long-changes (homeAt l) (omega arith)))
 
   -- and the mark, before its last store
-  pub commit-unmarked : (n v : ℕ) → n < 66 * length (changed l w) + 2 → mark (apply (torn n v (logStores (changed l w))) l) ≡ mark l
+  pub commit-unmarked : (n v : ℕ) → n < 66 * length (changedPages l w) + 2 → mark (apply (torn n v (logStores (changedPages l w))) l) ≡ mark l
   commit-unmarked n v g = kept (λ a. a ≡ 10 → ⊥) l 10 (log-unmarked long-changes n v g) (λ f. f refl)
 
   -- the whole log: the head is kept, the count is the number of pages, and the entries are those pages
-  pub commit-head : SameHead l (apply (logStores (changed l w)) l)
+  pub commit-head : SameHead l (apply (logStores (changedPages l w)) l)
   commit-head = head-kept l (spare-log long-changes)
 
-  few : length (changed l w) < 65536
+  few : length (changedPages l w) < 65536
   few = let r = head-right l ok in omega (arith, changes-few (home l) w (pages l))
 
-  room : entryAt (length (changed l w)) ≤ length l
+  room : entryAt (length (changedPages l w)) ≤ length l
   room = let r = head-right l ok in omega arith
 
-  pub commit-log : logOf (apply (logStores (changed l w)) l) ≡ changed l w
-  commit-log = ap (entries (apply (logStores (changed l w)) l) 0) (log-count l whole few room) ∙ log-entries l whole few room
+  pub commit-log : logOf (apply (logStores (changedPages l w)) l) ≡ changedPages l w
+  commit-log = ap (entries (apply (logStores (changedPages l w)) l) 0) (log-count l whole few room) ∙ log-entries l whole few room
 
-  untouched : drop (homeAt l) (apply (logStores (changed l w)) l) ≡ home l
+  untouched : drop (homeAt l) (apply (logStores (changedPages l w)) l) ≡ home l
   unfolding home
   untouched = drop-kept (homeAt l) l (below-log long-changes (homeAt l) (omega arith))
 
-  pub commit-home : home (apply (logStores (changed l w)) l) ≡ home l
+  pub commit-home : home (apply (logStores (changedPages l w)) l) ≡ home l
   unfolding home
-  commit-home = ap (λ (k : ℕ). drop (64 + 66 * k) (apply (logStores (changed l w)) l)) (capacity-same commit-head) ∙ untouched
+  commit-home = ap (λ (k : ℕ). drop (64 + 66 * k) (apply (logStores (changedPages l w)) l)) (capacity-same commit-head) ∙ untouched
 
   -- and the log is whole for the workspace
-  pub commit-logged : 0 < length (changed l w) → Logged (apply (logStores (changed l w)) l) w (length (changed l w))
+  pub commit-logged : 0 < length (changedPages l w) → Logged (apply (logStores (changedPages l w)) l) w (length (changedPages l w))
   unfolding logOk recoverStores clearMark run
   commit-logged g =
-      let es : List Entry = changed l w in
+      let es : List Entry = changedPages l w in
       let x : List ℕ = apply (logStores es) l in
       let h : ℕ = homeAt l in
       let c : count x ≡ length es = log-count l whole few room in

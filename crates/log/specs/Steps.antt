@@ -18,7 +18,7 @@ use Rattle.redo.specs.Entry.{Entry, changes}
 use Rattle.redo.specs.Stores.{clearMark, recoverStores, logStores, commitStores}
 use Rattle.redo.specs.StoresLaws.{length-log, length-commit, commit-none, commit-is}
 use Rattle.redo.specs.Torn.{torn, torn-all, torn-first, torn-second}
-use Rattle.log.specs.Calls.{Plan, refuse, store, answer, after, changed, logOf, recoverPlan, commitRules, commitPlan}
+use Rattle.log.specs.Calls.{Plan, refuse, store, answer, after, changedPages, logOf, recoverPlan, commitRules, commitPlan}
 use Rattle.log.specs.Answers.{recover-clear, recover-committed, recover-spoiled, commit-marked, not-store}
 use Rattle.log.specs.CallLaws.{log-last, log-mark-same, recover-marked, recover-last, recover-zero}
 use Rattle.log.specs.Book.{Call, commit, recover, allowance, value, planOf, rest, caught, seen, Book, logs, toldMark, recovering, committing, differing, refused, writes, keptRules, bookRules, judge, recoverNeed, report, answerTo, bookAt, foretold, next, leftBy, told}
@@ -151,10 +151,10 @@ module _ (accept : List ℕ → Bool) (l₀ : List ℕ) (ok₀ : headOk l₀ ≡
 
 -- k pages of w are to be written
 pub record Writing (accept : List ℕ → Bool) (l w : List ℕ) (k : ℕ) : Type 0 where
-  pub plan : commitPlan accept l w ≡ store (commitStores (homeAt l) (changed l w))
+  pub plan : commitPlan accept l w ≡ store (commitStores (homeAt l) (changedPages l w))
   pub same : length w ≡ 64 * pages l
-  pub count : length (changed l w) ≡ k
-  pub fit : length (changed l w) ≤ capacity l
+  pub count : length (changedPages l w) ≡ k
+  pub fit : length (changedPages l w) ≤ capacity l
 
 module _ (accept : List ℕ → Bool) (l₀ : List ℕ) (ok₀ : headOk l₀ ≡ true) (l : List ℕ) (b : Book) (t : Holds accept l₀ l b) where
   okay : headOk l ≡ true
@@ -173,14 +173,14 @@ module _ (accept : List ℕ → Bool) (l₀ : List ℕ) (ok₀ : headOk l₀ ≡
 
   module _ (m : b .mark ≡ 0) (e : b .owed ≡ 0) (s : home l ≡ b .kept) (w : List ℕ) (n v : ℕ) where
     abbrev stored : List Store
-    stored = commitStores (homeAt l) (changed l w)
+    stored = commitStores (homeAt l) (changedPages l w)
 
     -- a commit that nothing refuses, of no page
-    commit-nothing : commitPlan accept l w ≡ store stored → judge accept (capacity l₀) b w ≡ writes (length (changed l w)) → length (changed l w) ≡ 0
+    commit-nothing : commitPlan accept l w ≡ store stored → judge accept (capacity l₀) b w ≡ writes (length (changedPages l w)) → length (changedPages l w) ≡ 0
         → Step accept l₀ l b (commit w n v)
     unfolding seen told planOf allowance value foretold next answerTo bookAt torn
     commit-nothing plan verdict z =
-        let empty : commitPlan accept l w ≡ store [] = plan ∙ ap store (commit-none (homeAt l) (changed l w) z) in
+        let empty : commitPlan accept l w ≡ store [] = plan ∙ ap store (commit-none (homeAt l) (changedPages l w) z) in
         let both = told-store (commitPlan accept l w) [] 0 n v l empty refl in
         record {
           same = rw (verdict, z, no-commit) (λ i. record { answered = both .0 i; image = both .1 i });
@@ -188,12 +188,12 @@ module _ (accept : List ℕ → Bool) (l₀ : List ℕ) (ok₀ : headOk l₀ ≡
         }
 
     -- of some pages
-    module _ (same : length w ≡ 64 * pages l) (fit : length (changed l w) ≤ capacity l) (some : 0 < length (changed l w)) (fine : accept w ≡ true) where
+    module _ (same : length w ≡ 64 * pages l) (fit : length (changedPages l w) ≤ capacity l) (some : 0 < length (changedPages l w)) (fine : accept w ≡ true) where
       k : ℕ
-      k = length (changed l w)
+      k = length (changedPages l w)
 
       logging : List Store
-      logging = logStores (changed l w)
+      logging = logStores (changedPages l w)
 
       long-logs : length logging ≡ 66 * k + 3
       unfolding k logging
@@ -228,7 +228,7 @@ module _ (accept : List ℕ → Bool) (l₀ : List ℕ) (ok₀ : headOk l₀ ≡
       commit-behind : 66 * k + 3 ≤ n → Holds accept l₀ (apply (torn n v stored) l) (recovering (toldMark (logs b w k) 165) (n - (66 * k + 3)) v)
       unfolding k logging logs toldMark
       commit-behind g =
-          let es : List Entry = changed l w in
+          let es : List Entry = changedPages l w in
           let x : List ℕ = apply logging l in
           let j : ℕ = n - (66 * k + 3) in
           let c : Book = toldMark (logs b w k) 165 in
@@ -256,14 +256,14 @@ module _ (accept : List ℕ → Bool) (l₀ : List ℕ) (ok₀ : headOk l₀ ≡
           (λ z. moved (is ∙ cut (omega arith) ∙ log-last (long-changes l w okay same fit) l n v z) refl (tell accept l₀ ok₀ (apply logging l) (logs b w k) commit-ready v))
           (λ g. moved is refl (commit-behind g))
         where
-          cut : n < 66 * k + 3 → apply (torn n v (commitStores (homeAt l) (changed l w))) l ≡ apply (torn n v logging) l
-          cut g = ap (λ (z : List Store). apply (torn n v z) l) (commit-is (homeAt l) (changed l w) some) ∙ ap (λ (z : List Store). apply z l) (torn-first n v logging (recoverStores (homeAt l) (changed l w)) (omega (arith, long-logs)))
+          cut : n < 66 * k + 3 → apply (torn n v (commitStores (homeAt l) (changedPages l w))) l ≡ apply (torn n v logging) l
+          cut g = ap (λ (z : List Store). apply (torn n v z) l) (commit-is (homeAt l) (changedPages l w) some) ∙ ap (λ (z : List Store). apply z l) (torn-first n v logging (recoverStores (homeAt l) (changedPages l w)) (omega (arith, long-logs)))
 
-      commit-some : commitPlan accept l w ≡ store stored → judge accept (capacity l₀) b w ≡ writes (length (changed l w))
+      commit-some : commitPlan accept l w ≡ store stored → judge accept (capacity l₀) b w ≡ writes (length (changedPages l w))
           → Step accept l₀ l b (commit w n v)
       unfolding seen told planOf allowance value foretold next answerTo bookAt k
       commit-some plan verdict =
-          let need : length stored ≡ 130 * k + 4 = length-commit (homeAt l) (changed l w) some (long-changes l w okay same fit) in
+          let need : length stored ≡ 130 * k + 4 = length-commit (homeAt l) (changedPages l w) some (long-changes l w okay same fit) in
           let both = told-store (commitPlan accept l w) stored (130 * k + 4) n v l plan need in
           record {
             same = rw (verdict, some-commit k some) (λ i. record { answered = both .0 i; image = both .1 i });
@@ -271,7 +271,7 @@ module _ (accept : List ℕ → Bool) (l₀ : List ℕ) (ok₀ : headOk l₀ ≡
           }
 
     -- the book's tests are the commit's
-    differ : differing (b .kept) w ≡ length (changed l w)
+    differ : differing (b .kept) w ≡ length (changedPages l w)
     unfolding differing
     differ =
         let q : length (b .kept) / 64 ≡ pages l = omega (arith, t .fits .long, pages-same (t .head)) in
@@ -288,12 +288,12 @@ module _ (accept : List ℕ → Bool) (l₀ : List ℕ) (ok₀ : headOk l₀ ≡
     unfolding commitPlan commitRules keptRules first
     plan-is = rw (okay, eq-eqb (mark l) 0 (t .marks ∙ m), ap accept s ∙ t .fits .fine, differ, kept-long, capacity-same (t .head))
 
-    verdict-is : judge accept (capacity l₀) b w ≡ first refused rules (writes (length (changed l w)))
+    verdict-is : judge accept (capacity l₀) b w ≡ first refused rules (writes (length (changedPages l w)))
     unfolding judge bookRules first
     verdict-is = rw (eq-eqb (b .mark) 0 m, differ)
 
     -- what a commit with nothing to refuse it is
-    passed : refusal rules ≡ none → Writing accept l w (length (changed l w))
+    passed : refusal rules ≡ none → Writing accept l w (length (changedPages l w))
     passed e =
         let p = kept-passed accept (capacity l₀) (b .kept) w e in
         record {
@@ -306,22 +306,22 @@ module _ (accept : List ℕ → Bool) (l₀ : List ℕ) (ok₀ : headOk l₀ ≡
     -- with k pages to write
     pub writing : (j : ℕ) → judge accept (capacity l₀) b w ≡ writes j → Writing accept l w j
     writing j is =
-        let e = unrefused refused rules (writes (length (changed l w))) (writes j) (not-writes j) (sym verdict-is ∙ is) in
-        let verdict : writes (length (changed l w)) ≡ writes j = sym (verdict-is ∙ first-passed refused rules (writes (length (changed l w))) e) ∙ is in
-        let k : length (changed l w) ≡ j = cc in
+        let e = unrefused refused rules (writes (length (changedPages l w))) (writes j) (not-writes j) (sym verdict-is ∙ is) in
+        let verdict : writes (length (changedPages l w)) ≡ writes j = sym (verdict-is ∙ first-passed refused rules (writes (length (changedPages l w))) e) ∙ is in
+        let k : length (changedPages l w) ≡ j = cc in
         rw (← k) (passed e)
 
     -- and the other way
-    pub writes-changed : {ss : List Store} → commitPlan accept l w ≡ store ss → judge accept (capacity l₀) b w ≡ writes (length (changed l w))
-    writes-changed {ss} is = verdict-is ∙ first-passed refused rules (writes (length (changed l w))) (unrefused refuse rules (store stored) (store ss) (not-store ss) (sym plan-is ∙ is))
+    pub writes-changed : {ss : List Store} → commitPlan accept l w ≡ store ss → judge accept (capacity l₀) b w ≡ writes (length (changedPages l w))
+    writes-changed {ss} is = verdict-is ∙ first-passed refused rules (writes (length (changedPages l w))) (unrefused refuse rules (store stored) (store ss) (not-store ss) (sym plan-is ∙ is))
 
     commit-settled : Step accept l₀ l b (commit w n v)
     commit-settled = by-refusal rules
-        (λ r e. commit-refused w n v r (plan-is ∙ first-refused refuse rules r (store stored) e) (verdict-is ∙ first-refused refused rules r (writes (length (changed l w))) e))
+        (λ r e. commit-refused w n v r (plan-is ∙ first-refused refuse rules r (store stored) e) (verdict-is ∙ first-refused refused rules r (writes (length (changedPages l w))) e))
         (λ e.
-        let p : Writing accept l w (length (changed l w)) = passed e in
-        let verdict = verdict-is ∙ first-passed refused rules (writes (length (changed l w))) e in
-        by-lt 0 (length (changed l w))
+        let p : Writing accept l w (length (changedPages l w)) = passed e in
+        let verdict = verdict-is ∙ first-passed refused rules (writes (length (changedPages l w))) e in
+        by-lt 0 (length (changedPages l w))
         (λ some. commit-some (p .same) (p .fit) some (kept-passed accept (capacity l₀) (b .kept) w e .1) (p .plan) verdict)
         (λ z. commit-nothing (p .plan) verdict (omega arith)))
 

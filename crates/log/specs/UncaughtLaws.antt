@@ -19,7 +19,7 @@ use Rattle.redo.specs.Stores.{recoverStores, logStores}
 use Rattle.redo.specs.StoresLaws.{length-log, commit-is}
 use Rattle.redo.specs.Stage.{take-min}
 use Rattle.log.specs.declared.Outcome.{Outcome}
-use Rattle.log.specs.Calls.{Plan, refuse, store, answer, after, changed, logOf, recoverPlan, commitPlan}
+use Rattle.log.specs.Calls.{Plan, refuse, store, answer, after, changedPages, logOf, recoverPlan, commitPlan}
 use Rattle.log.specs.CallLaws.{log-right, log-mark-same, log-standing, recover-standing}
 use Rattle.log.specs.Book.{Call, commit, recover, allowance, value, planOf, rest, caught, Seen, seen, told, trace, final, Book, start, logs, toldMark, recovering, committing, Verdict, refused, writes, bookRules, judge, needBy, recoverNeed, report, answerTo, bookAt, foretold, next, bookAfter}
 use Rattle.log.specs.Answers.{recover-committed}
@@ -46,30 +46,30 @@ after-answer (store ss) n l = by-test (leb (length ss) n)
 
 -- the mark as it stood where a commit is cut at one of its two stores to it
 module _ (l w : List ℕ) (ok : headOk l ≡ true) (accept : List ℕ → Bool) (k n : ℕ) (t : Writing accept l w k) (some : 0 < k) where
-  long : length (logStores (changed l w)) ≡ 66 * k + 3
+  long : length (logStores (changedPages l w)) ≡ 66 * k + 3
   long = length-log (long-changes l w ok (t .same) (t .fit)) ∙ ap (λ (j : ℕ). 66 * j + 3) (t .count)
 
-  cut : after (commitPlan accept l w) n l ≡ apply (take (n - (66 * k + 3)) (recoverStores (homeAt l) (changed l w))) (apply (take n (logStores (changed l w))) l)
+  cut : after (commitPlan accept l w) n l ≡ apply (take (n - (66 * k + 3)) (recoverStores (homeAt l) (changedPages l w))) (apply (take n (logStores (changedPages l w))) l)
   unfolding after
   cut =
-      ap (λ (p : Plan). after p n l) (t .plan ∙ ap store (commit-is (homeAt l) (changed l w) (omega (arith, t .count))))
-      ∙ apply-take-append n (logStores (changed l w)) (recoverStores (homeAt l) (changed l w)) l
-      ∙ ap (λ (j : ℕ). apply (take (n - j) (recoverStores (homeAt l) (changed l w))) (apply (take n (logStores (changed l w))) l)) long
+      ap (λ (p : Plan). after p n l) (t .plan ∙ ap store (commit-is (homeAt l) (changedPages l w) (omega (arith, t .count))))
+      ∙ apply-take-append n (logStores (changedPages l w)) (recoverStores (homeAt l) (changedPages l w)) l
+      ∙ ap (λ (j : ℕ). apply (take (n - j) (recoverStores (homeAt l) (changedPages l w))) (apply (take n (logStores (changedPages l w))) l)) long
 
   stood-first : n ≡ 66 * k + 2 → mark (after (commitPlan accept l w) n l) ≡ mark l
   stood-first e =
       let z : n - (66 * k + 3) ≡ 0 = omega arith in
-      ap mark (cut ∙ ap (λ (j : ℕ). apply (take j (recoverStores (homeAt l) (changed l w))) (apply (take n (logStores (changed l w))) l)) z ∙ apply-none (apply (take n (logStores (changed l w))) l))
+      ap mark (cut ∙ ap (λ (j : ℕ). apply (take j (recoverStores (homeAt l) (changedPages l w))) (apply (take n (logStores (changedPages l w))) l)) z ∙ apply-none (apply (take n (logStores (changedPages l w))) l))
       ∙ log-standing (long-changes l w ok (t .same) (t .fit)) l n (omega (arith, t .count))
 
   stood-last : n ≡ 130 * k + 3 → mark (after (commitPlan accept l w) n l) ≡ 165
   stood-last e =
-      let x : List ℕ = apply (logStores (changed l w)) l in
+      let x : List ℕ = apply (logStores (changedPages l w)) l in
       let r = head-right l ok in
-      ap mark (cut ∙ ap (λ (ss : List Store). apply (take (n - (66 * k + 3)) (recoverStores (homeAt l) (changed l w))) (apply ss l)) (take-all n (logStores (changed l w)) (omega (arith, long))))
-      ∙ recover-standing x (homeAt l) (changed l w) (n - (66 * k + 3)) (omega arith) (long-changes l w ok (t .same) (t .fit)) (omega (arith, t .count))
-      ∙ ap mark (sym (log-mark-same l (changed l w)))
-      ∙ remark-mark x 165 (omega (arith, length-apply (logStores (changed l w)) l))
+      ap mark (cut ∙ ap (λ (ss : List Store). apply (take (n - (66 * k + 3)) (recoverStores (homeAt l) (changedPages l w))) (apply ss l)) (take-all n (logStores (changedPages l w)) (omega (arith, long))))
+      ∙ recover-standing x (homeAt l) (changedPages l w) (n - (66 * k + 3)) (omega arith) (long-changes l w ok (t .same) (t .fit)) (omega (arith, t .count))
+      ∙ ap mark (sym (log-mark-same l (changedPages l w)))
+      ∙ remark-mark x 165 (omega (arith, length-apply (logStores (changedPages l w)) l))
 
 module _ (accept : List ℕ → Bool) (L : ℕ) (p : Plain) (n v : ℕ) where
   plain-done : plainNeed p ≤ n → plainNext accept L p (recover n v) ≡ record { kept = p .kept; owed = 0 }

@@ -1,14 +1,27 @@
-// Both, either and first-without-second of two ordered lists of records in bytes. `records` has the definitions.
-use records::Merge;
+// Both, either and first-without-second of two ordered lists of records in bytes.
 use records::Record;
-use records::Side;
 ghost use mathlib.Core.Path.{_≡_};
 ghost use mathlib.Core.List.{[]};
 ghost use Prim.Native.Nat.{_+_, _*_, _/_, _≤_};
 ghost use lib.ListN.{length};
 ghost use lib.Dec.{ltb};
 ghost use Rattle.wire.specs.Bytes.{over};
-ghost use Rattle.records.specs.Records.{recordAt, decode, side, rest, ofFirst, ofSecond, keeps, keep, next, tally, merge, encode};
+ghost use Rattle.records.specs.Records.{recordAt, decode, rest, tally, encode};
+ghost use Rattle.merges.specs.Merging.{side, ofFirst, ofSecond, keeps, keep, next, merge};
+
+// Where the lowest call of two lists stands.
+pub enum Side {
+    First,
+    Shared,
+    Second,
+}
+
+// What is made of two lists.
+pub enum Merge {
+    Both,
+    Either,
+    Without,
+}
 
 // Where the lowest call stands of those from the i-th and the j-th record on.
 fn side_at(a: &[u8], i: usize, b: &[u8], j: usize) -> Side

@@ -15,7 +15,7 @@ use Rattle.home.specs.Zones.{Block, Zone, empty, from, lowered, lastOf, initOf,
 use Rattle.home.specs.Perm.{Perm, ptrans}
 use Rattle.home.specs.PermLaws.{psym, pright, protate, pall, prefl}
 use Rattle.home.specs.Layout.{Sits, Fit}
-use Rattle.home.specs.Bytes.{Spot, row, spots, dictionary, padded, entries, area, encode, decode, cellAt, firstAt, manyAt, zonesFrom}
+use Rattle.home.specs.Bytes.{Spot, row, spots, dictionary, padded, zoneEntries, area, encode, decode, cellAt, firstAt, manyAt, zonesFrom}
 use Rattle.home.specs.Sound.{pagesOf}
 use Rattle.home.specs.AreaLaws.{Good, Reads, spots-good, area-reads}
 use Rattle.home.specs.HomeLaws.{zones-back, ReadsAt}
@@ -35,8 +35,8 @@ use Rattle.moves.specs.Close.{lowest, zoneOf, lowBytes, lowEnd, Open, cl
 module _ (R : ℕ) (small : R ≤ 1024) (zs : List Zone) (v : Loose R zs) where
   part-area : (i n : ℕ) → part (encode R zs) (cellAt i) n ≡ part (area (8 * R) zs) (8 * i) n
   part-area i n = ap (λ (h : List ℕ). part h (cellAt i) n) (encode-state R small zs v)
-      ∙ join-part (length (dictionary zs)) (entries zs) (padded (dictionary zs)) (area (8 * R) zs) (length-zones R small zs v)
-      (ld (entries zs) (area (8 * R) zs) (length-zones R small zs v) (dictionary zs) (fine R small zs v)) (8 * i) n
+      ∙ join-part (length (dictionary zs)) (zoneEntries zs) (padded (dictionary zs)) (area (8 * R) zs) (length-zones R small zs v)
+      (ld (zoneEntries zs) (area (8 * R) zs) (length-zones R small zs v) (dictionary zs) (fine R small zs v)) (8 * i) n
 
   pub reads-loose : All (ReadsAt (encode R zs)) (spots 0 zs)
   reads-loose = all-map {P = Reads (area (8 * R) zs)} {Q = ReadsAt (encode R zs)} (λ s r. part-area (s .cell) (8 * cells (s .class)) ∙ r) (area-reads (8 * R) zs (v .fit))

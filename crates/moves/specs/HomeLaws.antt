@@ -11,7 +11,7 @@ use Rattle.home.specs.Zones.{Block, Zone}
 use Rattle.home.specs.Perm.{Perm, pswap, ptrans, Pairs}
 use Rattle.home.specs.PermLaws.{prefl, pall, ppairs, pairs-tail, all-left, all-right, pmap}
 use Rattle.home.specs.Layout.{Sits}
-use Rattle.home.specs.Bytes.{Spot, spots, Entry, entryOf, sorted, dictionary, padded, entries, area, encode, blockBytes, cellAt}
+use Rattle.home.specs.Bytes.{Spot, spots, Entry, entryOf, sorted, dictionary, padded, zoneEntries, area, encode, blockBytes, cellAt}
 use Rattle.home.specs.BytesLaws.{chop, get32-front}
 use Rattle.home.specs.AreaLaws.{Reads, bytesOf, spots-sit, area-reads}
 use Rattle.home.specs.HomeLaws.{get32-at, length-entries, length-dictionary}
@@ -36,7 +36,7 @@ fine-less pre x post ok =
 -- ---- a layout's bytes as its parts
 
 module _ (R : ℕ) (small : R ≤ 1024) (zs : List Zone) (v : Loose R zs) where
-  pub length-zones : length (entries zs) ≡ 120
+  pub length-zones : length (zoneEntries zs) ≡ 120
   length-zones = length-entries zs ∙ omega (arith, v .classes)
 
   pub fine : Fine (dictionary zs)
@@ -45,9 +45,9 @@ module _ (R : ℕ) (small : R ≤ 1024) (zs : List Zone) (v : Loose R zs) where
     small = dictionary-small R zs small (v .fit);
   }
 
-  pub encode-state : encode R zs ≡ state (entries zs) (dictionary zs) (area (8 * R) zs)
+  pub encode-state : encode R zs ≡ state (zoneEntries zs) (dictionary zs) (area (8 * R) zs)
   unfolding encode join
-  encode-state = ap (λ (n : ℕ). join n (entries zs) (padded (dictionary zs)) (area (8 * R) zs)) (sym (length-dictionary zs))
+  encode-state = ap (λ (n : ℕ). join n (zoneEntries zs) (padded (dictionary zs)) (area (8 * R) zs)) (sym (length-dictionary zs))
 
   -- the tags of its blocks, in any order
   pub others : (ss : List Spot) → Perm (spots 0 zs) ss → Pairs Else (map entryOf ss)
@@ -76,21 +76,21 @@ module _ (R : ℕ) (small : R ≤ 1024) (zs : List Zone) (v : Loose R zs) where
       let t : Parted (x .tag) (sorted (map entryOf ss)) = kept x (map entryOf ss) (others (s ∷ ss) p) in
       subst Fine (sym (t .is)) (fine-less (t .pre) x (t .post) (subst Fine (dictionary-as (s ∷ ss) p ∙ sorted-one x (map entryOf ss) t) fine))
 
-  pub unentered-state : (s : Spot) (ss : List Spot) → Perm (spots 0 zs) (s ∷ ss) → unentered (encode R zs) (s .block .tag) ≡ state (entries zs) (sorted (map entryOf ss)) (area (8 * R) zs)
+  pub unentered-state : (s : Spot) (ss : List Spot) → Perm (spots 0 zs) (s ∷ ss) → unentered (encode R zs) (s .block .tag) ≡ state (zoneEntries zs) (sorted (map entryOf ss)) (area (8 * R) zs)
   unentered-state s ss p =
       let x : Entry = entryOf s in
       let t : Parted (x .tag) (sorted (map entryOf ss)) = kept x (map entryOf ss) (others (s ∷ ss) p) in
       let d : dictionary zs ≡ t .pre ++ x ∷ t .post = dictionary-as (s ∷ ss) p ∙ sorted-one x (map entryOf ss) t in
-      ap (λ (h : List ℕ). unentered h (x .tag)) (encode-state ∙ ap (λ (y : List Entry). state (entries zs) y (area (8 * R) zs)) d)
-      ∙ state-unentered (entries zs) length-zones (t .pre) (t .post) (area (8 * R) zs) (x .tag) (t .low) (t .high) x refl (subst Fine d fine)
-      ∙ ap (λ (y : List Entry). state (entries zs) y (area (8 * R) zs)) (sym (t .is))
+      ap (λ (h : List ℕ). unentered h (x .tag)) (encode-state ∙ ap (λ (y : List Entry). state (zoneEntries zs) y (area (8 * R) zs)) d)
+      ∙ state-unentered (zoneEntries zs) length-zones (t .pre) (t .post) (area (8 * R) zs) (x .tag) (t .low) (t .high) x refl (subst Fine d fine)
+      ∙ ap (λ (y : List Entry). state (zoneEntries zs) y (area (8 * R) zs)) (sym (t .is))
 
   -- b's entry is out: y's among the others
   record Without (n q p : ℕ) (b y : Block) (r : List Spot) : Type 0 where
     pub parted : Parted (y .tag) (sorted (map entryOf r))
     pub fine : Fine (parted .pre ++ entryOf (spot n p y) ∷ parted .post)
     pub rising : Pairs Below (parted .pre ++ entryOf (spot n p y) ∷ parted .post)
-    pub bytes : unentered (encode R zs) (b .tag) ≡ state (entries zs) (parted .pre ++ entryOf (spot n p y) ∷ parted .post) (area (8 * R) zs)
+    pub bytes : unentered (encode R zs) (b .tag) ≡ state (zoneEntries zs) (parted .pre ++ entryOf (spot n p y) ∷ parted .post) (area (8 * R) zs)
     pub bears : get32 (area (8 * R) zs) (8 * p) ≡ y .tag
 
   without : (n q p : ℕ) (b y : Block) (r : List Spot) → Perm (spots 0 zs) (spot n q b ∷ spot n p y ∷ r) → Without n q p b y r
@@ -104,7 +104,7 @@ module _ (R : ℕ) (small : R ≤ 1024) (zs : List Zone) (v : Loose R zs) where
         parted = u;
         fine = subst Fine m (fine-without s (w ∷ r) was);
         rising = subst (Pairs Below) m (sorted-rising (map entryOf (w ∷ r)) o);
-        bytes = unentered-state s (w ∷ r) was ∙ ap (λ (z : List Entry). state (entries zs) z (area (8 * R) zs)) m;
+        bytes = unentered-state s (w ∷ r) was ∙ ap (λ (z : List Entry). state (zoneEntries zs) z (area (8 * R) zs)) m;
         bears = area-bears w (s ∷ r) (ptrans was (pswap s w r));
       }
 
@@ -112,13 +112,13 @@ module _ (R : ℕ) (small : R ≤ 1024) (zs : List Zone) (v : Loose R zs) where
   movable-without n q p b y r was =
       let m : Without n q p b y r = without n q p b y r was in
       subst (λ (h : List ℕ). Movable h p) (sym (m .bytes))
-      (state-movable (entries zs) length-zones (m .parted .pre) (m .parted .post) (area (8 * R) zs) (y .tag) (m .parted .low) (m .parted .high) (entryOf (spot n p y)) p refl (m .fine) (m .rising) (m .bears))
+      (state-movable (zoneEntries zs) length-zones (m .parted .pre) (m .parted .post) (area (8 * R) zs) (y .tag) (m .parted .low) (m .parted .high) (entryOf (spot n p y)) p refl (m .fine) (m .rising) (m .bears))
 
 -- ---- one block changed, and zone c's entry set
 
 module _ (R : ℕ) (small : R ≤ 1024) (zs zs' : List Zone) (v : Loose R zs) (v' : Loose R zs') where
   abbrev es : List ℕ
-  es = entries zs
+  es = zoneEntries zs
 
   abbrev a : List ℕ
   a = area (8 * R) zs
@@ -126,12 +126,12 @@ module _ (R : ℕ) (small : R ≤ 1024) (zs zs' : List Zone) (v : Loose R zs) (v
   le : length es ≡ 120
   le = length-zones R small zs v
 
-  module _ (c f k : ℕ) (g : c < 30) (set : over (entries zs) (4 * c) (bytes16 f ++ bytes16 k) ≡ entries zs') where
+  module _ (c f k : ℕ) (g : c < 30) (set : over (zoneEntries zs) (4 * c) (bytes16 f ++ bytes16 k) ≡ zoneEntries zs') where
     -- the last store: zone c's entry
     zone-set : (ds : List Entry) (a' : List ℕ) → dictionary zs' ≡ ds → area (8 * R) zs' ≡ a' → encode R zs' ≡ zoned (state es ds a') c f k
     zone-set ds a' d e =
         encode-state R small zs' v'
-        ∙ ap₂ (λ (x : List Entry) (y : List ℕ). state (entries zs') x y) d e
+        ∙ ap₂ (λ (x : List Entry) (y : List ℕ). state (zoneEntries zs') x y) d e
         ∙ ap (λ (x : List ℕ). state x ds a') (sym set)
         ∙ sym (state-zoned es a' le ds (subst Fine d (fine R small zs' v')) c f k g)
 
@@ -190,12 +190,12 @@ module _ (R : ℕ) (small : R ≤ 1024) (zs zs' : List Zone) (v : Loose R zs) (v
         ∙ state-moved es le (m .parted .pre) (m .parted .post) a (y .tag) (m .parted .low) (m .parted .high) (entryOf (spot n p y)) n p q refl (m .fine) (m .bears)))
 
   -- another list in the block of class n at cell p
-  pub home-rewritten : (n p : ℕ) (b b' : Block) (ss : List Spot) → b .tag ≡ b' .tag → entries zs ≡ entries zs' → Perm (spots 0 zs) (spot n p b ∷ ss) → Perm (spots 0 zs') (spot n p b' ∷ ss)
+  pub home-rewritten : (n p : ℕ) (b b' : Block) (ss : List Spot) → b .tag ≡ b' .tag → zoneEntries zs ≡ zoneEntries zs' → Perm (spots 0 zs) (spot n p b ∷ ss) → Perm (spots 0 zs') (spot n p b' ∷ ss)
       → encode R zs' ≡ over (encode R zs) (cellAt p) (blockBytes n b')
   home-rewritten n p b b' ss q set was is =
       let d : dictionary zs' ≡ dictionary zs = dictionary-as R small zs' v' (spot n p b' ∷ ss) is
       ∙ ap (λ (t : ℕ). sorted (record { tag = t; cell = p } ∷ map entryOf ss)) (sym q) ∙ sym (dictionary-as R small zs v (spot n p b ∷ ss) was) in
       encode-state R small zs' v'
-      ∙ ap₂ (λ (x : List Entry) (y : List ℕ). state (entries zs') x y) d (area-rewritten (8 * R) zs zs' (v .fit) (v' .fit) n p b b' ss was is)
+      ∙ ap₂ (λ (x : List Entry) (y : List ℕ). state (zoneEntries zs') x y) d (area-rewritten (8 * R) zs zs' (v .fit) (v' .fit) n p b b' ss was is)
       ∙ ap (λ (x : List ℕ). state x (dictionary zs) (over a (8 * p) (blockBytes n b'))) (sym set)
       ∙ sym (ap (λ (h : List ℕ). over h (cellAt p) (blockBytes n b')) (encode-state R small zs v) ∙ state-written es a le (dictionary zs) (fine R small zs v) p (blockBytes n b'))

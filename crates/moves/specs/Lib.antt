@@ -13,7 +13,7 @@ pub mod AtLaws
 pub mod Close
 pub mod CloseLaws
 pub mod CloseCode
-pub mod HeldLaws
+pub mod AtSpotsLaws
 pub mod Slide
 pub mod SlideLaws
 pub mod SlideCode

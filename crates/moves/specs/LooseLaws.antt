@@ -15,7 +15,7 @@ use Rattle.home.specs.Valid.{Other}
 use Rattle.home.specs.Layout.{Sits, Fit}
 use Rattle.home.specs.Cases.{by-pick, Holds, holds-map}
 use Rattle.home.specs.PlaceLaws.{length-snoc}
-use Rattle.home.specs.Bytes.{Spot, spots, Entry, entryOf, sorted, dictionary, padded, entries, area, encode, decode, firstAt, manyAt}
+use Rattle.home.specs.Bytes.{Spot, spots, Entry, entryOf, sorted, dictionary, padded, zoneEntries, area, encode, decode, firstAt, manyAt}
 use Rattle.home.specs.Sound.{pagesOf}
 use Rattle.home.specs.AreaLaws.{length-area}
 use Rattle.home.specs.HomeLaws.{Entries, entries-read, encode-entries}
@@ -40,7 +40,7 @@ entry-at h i (from f x xs ∷ zs) (suc k) d g = let e : i + suc k ≡ suc i + k 
 
 module _ (R : ℕ) (small : R ≤ 1024) (zs : List Zone) (v : Loose R zs) where
   abbrev es : List ℕ
-  es = entries zs
+  es = zoneEntries zs
 
   abbrev a : List ℕ
   a = area (8 * R) zs

@@ -4,7 +4,7 @@ use Prim.Native.Nat.{ℕ, _+_, _*_, _-_, _<_}
 use lib.ListN.{replicate}
 use Rattle.wire.specs.Bytes.{part, over, get16, get32, bytes16, bytes32}
 use Rattle.home.specs.Capacities.{cells}
-use Rattle.home.specs.Bytes.{cellAt, entryAt}
+use Rattle.home.specs.Bytes.{cellAt, zoneEntryAt}
 use Rattle.home.specs.Lookup.{Ordered, indexOf}
 
 -- n bytes carried to another place, zeros left behind
@@ -47,7 +47,7 @@ unentered h t =
 
 -- zone c starts at cell f and has n blocks
 unfoldable pub zoned : List ℕ → ℕ → ℕ → ℕ → List ℕ
-zoned h c f n = over h (entryAt c) (bytes16 f ++ bytes16 n)
+zoned h c f n = over h (zoneEntryAt c) (bytes16 f ++ bytes16 n)
 
 -- the block at cell p has a tag that can be found
 pub record Movable (h : List ℕ) (p : ℕ) : Type 0 where

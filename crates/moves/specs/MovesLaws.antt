@@ -9,7 +9,7 @@ use Rattle.wire.specs.Bytes.{part, over, get16, get32, bytes16, bytes32}
 use Rattle.wire.specs.BytesLaws.{length-over, over-low, over-high, length-part, length-bytes16, length-bytes32, over-at, over-next}
 use Rattle.wire.specs.Cases.{by-lt, by-within}
 use Rattle.home.specs.Capacities.{cells}
-use Rattle.home.specs.Bytes.{entryAt, cellAt}
+use Rattle.home.specs.Bytes.{zoneEntryAt, cellAt}
 use Rattle.home.specs.Lookup.{indexOf}
 use Rattle.moves.specs.Moves.{carried, celled, entered, unentered, zoned, moved}
 
@@ -69,9 +69,9 @@ carried-down l from to n a b =
 
 -- ---- numbers written one after the other
 
-pub zoned-twice : (h : List ℕ) (c f n : ℕ) → over (over h (entryAt c) (bytes16 f)) (entryAt c + 2) (bytes16 n) ≡ zoned h c f n
+pub zoned-twice : (h : List ℕ) (c f n : ℕ) → over (over h (zoneEntryAt c) (bytes16 f)) (zoneEntryAt c + 2) (bytes16 n) ≡ zoned h c f n
 unfolding zoned
-zoned-twice h c f n = over-next h (entryAt c) (entryAt c + 2) (bytes16 f) (bytes16 n) (omega (arith, length-bytes16 f))
+zoned-twice h c f n = over-next h (zoneEntryAt c) (zoneEntryAt c + 2) (bytes16 f) (bytes16 n) (omega (arith, length-bytes16 f))
 
 -- ---- what the code stores, as the definitions have it
 

@@ -11,7 +11,7 @@ use Rattle.wire.specs.Bytes.{over, bytes16}
 use Rattle.home.specs.Capacities.{cells}
 use Rattle.home.specs.Zones.{Zone, empty, from, based}
 use Rattle.home.specs.Layout.{Fit}
-use Rattle.home.specs.Bytes.{spots, entries, encode, decode, cellAt, firstAt, manyAt}
+use Rattle.home.specs.Bytes.{spots, zoneEntries, encode, decode, cellAt, firstAt, manyAt}
 use Rattle.home.specs.Sound.{pagesOf}
 use Rattle.home.specs.AreaLaws.{fit-le}
 use Rattle.moves.specs.Moves.{Movable, zoned, moved}
@@ -20,7 +20,7 @@ use Rattle.moves.specs.StepLaws.{firstOf, manyOf, zone-set}
 use Rattle.moves.specs.LooseLaws.{zone-at, length-loose, fit-above}
 use Rattle.moves.specs.Stored.{endAfter, Loose}
 use Rattle.moves.specs.AtLaws.{at-zone, zone-here}
-use Rattle.moves.specs.HeldLaws.{held, held-zoned, encode-held}
+use Rattle.moves.specs.AtSpotsLaws.{atSpots, spots-zoned, encode-spots}
 use Rattle.moves.specs.Slide.{rebased, Slides, slid, Going}
 use Rattle.moves.specs.SlideLaws.{Here, startingAt, halfBytes, Reach, half-none, half-all, half-moves, rebased-at, loose-kept}
 
@@ -117,8 +117,8 @@ module _ (h : List ℕ) (c f to n k : ℕ) (o : Going h c f to n) (size : k ≡ 
   blocks-are : n ≡ suc (length (z .tail))
   blocks-are = o .many ∙ g .many
 
-  bytes-are : h ≡ held R (entries zs) (spots 0 (startingAt R zs c z f))
-  bytes-are = o .slides .bytes ∙ encode-held R (z .pages) zs (z .loose) ∙ ap (λ (l : List Zone). held R (entries zs) (spots 0 l)) (sym here-is)
+  bytes-are : h ≡ atSpots R (zoneEntries zs) (spots 0 (startingAt R zs c z f))
+  bytes-are = o .slides .bytes ∙ encode-spots R (z .pages) zs (z .loose) ∙ ap (λ (l : List Zone). atSpots R (zoneEntries zs) (spots 0 l)) (sym here-is)
 
   pub down-start : to ≤ f → Sliding R zs h c to to f 0 n k
   down-start le = record {
@@ -148,18 +148,18 @@ module _ (h : List ℕ) (c f to n k : ℕ) (o : Going h c f to n) (size : k ≡ 
 
 module _ (R : ℕ) (zs : List Zone) (h : List ℕ) (c to p q i n k : ℕ) (s : Sliding R zs h c to p q i n k) where
   -- its blocks are there, and its entry is set
-  entry-set : h ≡ held R (entries zs) (spots 0 (startingAt R zs c (s .here) to)) → zoned h c to n ≡ slid R zs c to
+  entry-set : h ≡ atSpots R (zoneEntries zs) (spots 0 (startingAt R zs c (s .here) to)) → zoned h c to n ≡ slid R zs c to
   unfolding slid firstOf manyOf
   entry-set e =
       let z : Here R zs c = s .here in
       let zs' : List Zone = startingAt R zs c z to in
-      let set : over (entries zs) (4 * c) (bytes16 to ++ bytes16 n) ≡ entries zs' =
-      subst (λ (l : List Zone). over (entries l) (4 * c) (bytes16 to ++ bytes16 n) ≡ entries zs') (sym (z .is))
-      (subst (λ (d : ℕ). over (entries (z .lower ++ from (z .first) (z .head) (z .tail) ∷ z .higher)) (4 * d) (bytes16 to ++ bytes16 n) ≡ entries zs') (z .class)
+      let set : over (zoneEntries zs) (4 * c) (bytes16 to ++ bytes16 n) ≡ zoneEntries zs' =
+      subst (λ (l : List Zone). over (zoneEntries l) (4 * c) (bytes16 to ++ bytes16 n) ≡ zoneEntries zs') (sym (z .is))
+      (subst (λ (d : ℕ). over (zoneEntries (z .lower ++ from (z .first) (z .head) (z .tail) ∷ z .higher)) (4 * d) (bytes16 to ++ bytes16 n) ≡ zoneEntries zs') (z .class)
       (zone-set (z .lower) (from (z .first) (z .head) (z .tail)) (from to (z .head) (z .tail)) (z .higher) to n refl (sym (s .many)))) in
       ap (λ (l : List ℕ). zoned l c to n) e
-      ∙ held-zoned R (z .pages) (entries zs) (length-zones R (z .pages) zs (z .loose)) (spots 0 zs') (loose-kept R zs' (s .next)) c to n (z .under)
-      ∙ ap (λ (l : List ℕ). held R l (spots 0 zs')) set ∙ sym (encode-held R (z .pages) zs' (s .next)) ∙ ap (encode R) (sym (s .there))
+      ∙ spots-zoned R (z .pages) (zoneEntries zs) (length-zones R (z .pages) zs (z .loose)) (spots 0 zs') (loose-kept R zs' (s .next)) c to n (z .under)
+      ∙ ap (λ (l : List ℕ). atSpots R l (spots 0 zs')) set ∙ sym (encode-spots R (z .pages) zs' (s .next)) ∙ ap (encode R) (sym (s .there))
 
   ends : q + n * k ≤ 8192
   ends = rw (s .many, s .size) (omega (arith, s .here .pages, fit-le (8 * R) (suc c) (q + suc (length (s .here .tail)) * cells c) (s .here .higher) (s .reach .high)))
@@ -182,7 +182,7 @@ module _ (R : ℕ) (zs : List Zone) (h : List ℕ) (c to p q i n k : ℕ) (s : S
   pub down-done : p ≡ to → n ≤ i → zoned h c to n ≡ slid R zs c to
   down-done e g =
       let j : i ≡ suc (length (s .here .tail)) = omega (arith, s .upTo, s .many) in
-      entry-set (s .bytes ∙ ap (halfBytes R zs c (s .here) p q) j ∙ half-all R zs c (s .here) p q ∙ ap (λ (d : ℕ). held R (entries zs) (spots 0 (startingAt R zs c (s .here) d))) e)
+      entry-set (s .bytes ∙ ap (halfBytes R zs c (s .here) p q) j ∙ half-all R zs c (s .here) p q ∙ ap (λ (d : ℕ). atSpots R (zoneEntries zs) (spots 0 (startingAt R zs c (s .here) d))) e)
 
   -- the block before
   less : 0 < i → i ≡ suc (i - 1)
@@ -201,4 +201,4 @@ module _ (R : ℕ) (zs : List Zone) (h : List ℕ) (c to p q i n k : ℕ) (s : S
   pub up-done : q ≡ to → i ≤ 0 → zoned h c to n ≡ slid R zs c to
   up-done e g =
       let j : i ≡ 0 = omega arith in
-      entry-set (s .bytes ∙ ap (halfBytes R zs c (s .here) p q) j ∙ half-none R zs c (s .here) p q ∙ ap (λ (d : ℕ). held R (entries zs) (spots 0 (startingAt R zs c (s .here) d))) e)
+      entry-set (s .bytes ∙ ap (halfBytes R zs c (s .here) p q) j ∙ half-none R zs c (s .here) p q ∙ ap (λ (d : ℕ). atSpots R (zoneEntries zs) (spots 0 (startingAt R zs c (s .here) d))) e)

@@ -11,7 +11,7 @@ use Rattle.home.specs.Perm.{Perm, Pairs, ptrans}
 use Rattle.home.specs.PermLaws.{pleft, pright, pfront, all-left, all-right}
 use Rattle.home.specs.Valid.{Other}
 use Rattle.home.specs.Layout.{Sits, Fit}
-use Rattle.home.specs.Bytes.{Spot, row, spots, entries, cellAt}
+use Rattle.home.specs.Bytes.{Spot, row, spots, zoneEntries, cellAt}
 use Rattle.home.specs.AreaLaws.{spots-sit, row-sits}
 use Rattle.home.specs.DictionaryLaws.{row-blocks, spots-blocks}
 use Rattle.moves.specs.Moves.{Movable, moved}
@@ -21,7 +21,7 @@ use Rattle.moves.specs.LooseLaws.{fit-above, blocks-append}
 use Rattle.moves.specs.Stored.{endAfter, Loose}
 use Rattle.moves.specs.AtLaws.{take-here, drop-next, zone-here}
 use Rattle.moves.specs.Slide.{rebased}
-use Rattle.moves.specs.HeldLaws.{spotBlock, SitsAt, held, Kept, kept-perm, held-perm, held-long, held-movable, held-moved, lined-lower, lined-append, row-lined, spots-lined, below-lined, kept-lined}
+use Rattle.moves.specs.AtSpotsLaws.{spotBlock, SitsAt, atSpots, Kept, kept-perm, spots-perm, spots-long, spots-movable, spots-moved, lined-lower, lined-append, row-lined, spots-lined, below-lined, kept-lined}
 
 -- ---- halfway
 
@@ -85,17 +85,17 @@ pub record Moves (R : ℕ) (h h' : List ℕ) (c from to : ℕ) : Type 0 where
 
 -- named in another order before and after
 moves-perm : (R : ℕ) → R ≤ 1024 → (es : List ℕ) → length es ≡ 120 → (ss ts rest : List Spot) (c p q : ℕ) (y : Block)
-    → Kept R ss → Kept R ts → Perm ss (spot c p y ∷ rest) → Perm ts (spot c q y ∷ rest) → Moves R (held R es ss) (held R es ts) c p q
+    → Kept R ss → Kept R ts → Perm ss (spot c p y ∷ rest) → Perm ts (spot c q y ∷ rest) → Moves R (atSpots R es ss) (atSpots R es ts) c p q
 moves-perm R small es le ss ts rest c p q y k k' a b =
     let m : Kept R (spot c p y ∷ rest) = kept-perm R a k in
     let m' : Kept R (spot c q y ∷ rest) = kept-perm R b k' in
-    let e : held R es ss ≡ held R es (spot c p y ∷ rest) = held-perm R small es le a k in
-    let l : length (held R es ss) ≡ 1664 + 64 * R = held-long R small es le ss k in
+    let e : atSpots R es ss ≡ atSpots R es (spot c p y ∷ rest) = spots-perm R small es le a k in
+    let l : length (atSpots R es ss) ≡ 1664 + 64 * R = spots-long R small es le ss k in
     record {
-      movable = subst (λ (h : List ℕ). Movable h p) (sym e) (held-movable R small es le (spot c p y) rest m);
+      movable = subst (λ (h : List ℕ). Movable h p) (sym e) (spots-movable R small es le (spot c p y) rest m);
       old = omega (arith, l, all-head (m .good) .inside);
       new = omega (arith, l, all-head (m' .good) .inside);
-      bytes = ap (λ (h : List ℕ). moved h c p q) e ∙ held-moved R small es le (spot c p y) q rest m m' ∙ sym (held-perm R small es le b k');
+      bytes = ap (λ (h : List ℕ). moved h c p q) e ∙ spots-moved R small es le (spot c p y) q rest m m' ∙ sym (spots-perm R small es le b k');
     }
 
 -- ---- a zone on its way
@@ -133,7 +133,7 @@ module _ (R : ℕ) (zs : List Zone) (c : ℕ) (z : Here R zs c) where
   bs = z .head ∷ z .tail
 
   abbrev es : List ℕ
-  es = entries zs
+  es = zoneEntries zs
 
   le : length es ≡ 120
   le = length-zones R (z .pages) zs (z .loose)
@@ -147,7 +147,7 @@ module _ (R : ℕ) (zs : List Zone) (c : ℕ) (z : Here R zs c) where
   half p q j = halfway (z .lower) c p (q + j * cells c) (take j bs) (drop j bs) (z .higher)
 
   abbrev pub halfBytes : ℕ → ℕ → ℕ → List ℕ
-  halfBytes p q j = held R es (half p q j)
+  halfBytes p q j = atSpots R es (half p q j)
 
   -- from p on it fits behind the lower zones, from q on before the higher ones
   pub record Reach (p q : ℕ) : Type 0 where
@@ -160,17 +160,17 @@ module _ (R : ℕ) (zs : List Zone) (c : ℕ) (z : Here R zs c) where
   spots-at p = spots-in (z .lower) (from p (z .head) (z .tail) ∷ z .higher) ∙ ap (λ (d : ℕ). spots 0 (z .lower) ++ spots d (from p (z .head) (z .tail) ∷ z .higher)) (z .class)
 
   -- none of them, and all
-  pub half-none : (p q : ℕ) → halfBytes p q 0 ≡ held R es (spots 0 (startingAt q))
+  pub half-none : (p q : ℕ) → halfBytes p q 0 ≡ atSpots R es (spots 0 (startingAt q))
   unfolding row
-  half-none p q = ap (held R es) (ap (λ (d : ℕ). spots 0 (z .lower) ++ (row c d bs ++ spots (suc c) (z .higher))) (omega arith) ∙ sym (spots-at q))
+  half-none p q = ap (atSpots R es) (ap (λ (d : ℕ). spots 0 (z .lower) ++ (row c d bs ++ spots (suc c) (z .higher))) (omega arith) ∙ sym (spots-at q))
 
-  pub half-all : (p q : ℕ) → halfBytes p q (suc (length (z .tail))) ≡ held R es (spots 0 (startingAt p))
+  pub half-all : (p q : ℕ) → halfBytes p q (suc (length (z .tail))) ≡ atSpots R es (spots 0 (startingAt p))
   unfolding row
   half-all p q =
       let n : ℕ = length bs in
       let d : drop n bs ≡ [] = drop-of-length-le bs {i = n} (omega arith) in
       let t : take n bs ≡ bs = sym (append-nil (take n bs)) ∙ ap (λ (l : List Block). take n bs ++ l) (sym d) ∙ take-append-drop n bs in
-      ap (held R es) (ap₂ (λ (x y : List Block). halfway (z .lower) c p (q + n * cells c) x y (z .higher)) t d
+      ap (atSpots R es) (ap₂ (λ (x y : List Block). halfway (z .lower) c p (q + n * cells c) x y (z .higher)) t d
       ∙ ap (λ (l : List Spot). spots 0 (z .lower) ++ (l ++ spots (suc c) (z .higher))) (append-nil (row c p bs)) ∙ sym (spots-at p))
 
   module _ (p q : ℕ) (w : Reach p q) where

@@ -10,7 +10,7 @@ use Rattle.home.specs.Capacities.{cells}
 use Rattle.home.specs.Zones.{Block, Zone, empty, from, zone, added, lifted, endOf, lastOf, initOf, turned}
 use Rattle.home.specs.Perm.{Perm, pskip, ptrans}
 use Rattle.home.specs.PermLaws.{prefl, pright, pfront}
-use Rattle.home.specs.Bytes.{Spot, row, spots, entries, encode, blockBytes, cellAt}
+use Rattle.home.specs.Bytes.{Spot, row, spots, zoneEntries, encode, blockBytes, cellAt}
 use Rattle.home.specs.HomeLaws.{length-entries}
 use Rattle.home.specs.DictionaryLaws.{zone-spots}
 use Rattle.moves.specs.Moves.{zoned, moved, entered, unentered}
@@ -35,26 +35,26 @@ entryBytes z = bytes16 (firstOf z) ++ bytes16 (manyOf z)
 length-entry : (z : Zone) → length (entryBytes z) ≡ 4
 length-entry z = length-append (bytes16 (firstOf z)) (bytes16 (manyOf z)) ∙ omega (arith, length-bytes16 (firstOf z), length-bytes16 (manyOf z))
 
-entries-cons : (z : Zone) (zs : List Zone) → entries (z ∷ zs) ≡ entryBytes z ++ entries zs
-unfolding entries firstOf manyOf bytes16
+entries-cons : (z : Zone) (zs : List Zone) → zoneEntries (z ∷ zs) ≡ entryBytes z ++ zoneEntries zs
+unfolding zoneEntries firstOf manyOf bytes16
 entries-cons empty zs = refl
 entries-cons (from f x xs) zs = refl
 
-entries-append : (ls hs : List Zone) → entries (ls ++ hs) ≡ entries ls ++ entries hs
-unfolding entries
+entries-append : (ls hs : List Zone) → zoneEntries (ls ++ hs) ≡ zoneEntries ls ++ zoneEntries hs
+unfolding zoneEntries
 entries-append [] hs = refl
 entries-append (z ∷ ls) hs =
     entries-cons z (ls ++ hs) ∙ ap (λ (l : List ℕ). entryBytes z ++ l) (entries-append ls hs)
-    ∙ sym (append-assoc (entryBytes z) (entries ls) (entries hs)) ∙ ap (λ (l : List ℕ). l ++ entries hs) (sym (entries-cons z ls))
+    ∙ sym (append-assoc (entryBytes z) (zoneEntries ls) (zoneEntries hs)) ∙ ap (λ (l : List ℕ). l ++ zoneEntries hs) (sym (entries-cons z ls))
 
-zone-written : (ls : List Zone) (z z' : Zone) (hs : List Zone) → over (entries (ls ++ z ∷ hs)) (4 * length ls) (entryBytes z') ≡ entries (ls ++ z' ∷ hs)
+zone-written : (ls : List Zone) (z z' : Zone) (hs : List Zone) → over (zoneEntries (ls ++ z ∷ hs)) (4 * length ls) (entryBytes z') ≡ zoneEntries (ls ++ z' ∷ hs)
 zone-written ls z z' hs =
-    ap (λ (l : List ℕ). over l (4 * length ls) (entryBytes z')) (entries-append ls (z ∷ hs) ∙ ap (λ (l : List ℕ). entries ls ++ l) (entries-cons z hs))
-    ∙ over-seam (entries ls) (entryBytes z) (entries hs) (entryBytes z') (4 * length ls) (length-entries ls) (length-entry z ∙ sym (length-entry z'))
-    ∙ sym (entries-append ls (z' ∷ hs) ∙ ap (λ (l : List ℕ). entries ls ++ l) (entries-cons z' hs))
+    ap (λ (l : List ℕ). over l (4 * length ls) (entryBytes z')) (entries-append ls (z ∷ hs) ∙ ap (λ (l : List ℕ). zoneEntries ls ++ l) (entries-cons z hs))
+    ∙ over-seam (zoneEntries ls) (entryBytes z) (zoneEntries hs) (entryBytes z') (4 * length ls) (length-entries ls) (length-entry z ∙ sym (length-entry z'))
+    ∙ sym (entries-append ls (z' ∷ hs) ∙ ap (λ (l : List ℕ). zoneEntries ls ++ l) (entries-cons z' hs))
 
-pub zone-set : (ls : List Zone) (z z' : Zone) (hs : List Zone) (f k : ℕ) → firstOf z' ≡ f → manyOf z' ≡ k → over (entries (ls ++ z ∷ hs)) (4 * length ls) (bytes16 f ++ bytes16 k) ≡ entries (ls ++ z' ∷ hs)
-zone-set ls z z' hs f k a b = ap₂ (λ (x y : ℕ). over (entries (ls ++ z ∷ hs)) (4 * length ls) (bytes16 x ++ bytes16 y)) (sym a) (sym b) ∙ zone-written ls z z' hs
+pub zone-set : (ls : List Zone) (z z' : Zone) (hs : List Zone) (f k : ℕ) → firstOf z' ≡ f → manyOf z' ≡ k → over (zoneEntries (ls ++ z ∷ hs)) (4 * length ls) (bytes16 f ++ bytes16 k) ≡ zoneEntries (ls ++ z' ∷ hs)
+zone-set ls z z' hs f k a b = ap₂ (λ (x y : ℕ). over (zoneEntries (ls ++ z ∷ hs)) (4 * length ls) (bytes16 x ++ bytes16 y)) (sym a) (sym b) ∙ zone-written ls z z' hs
 
 pub class-below : (ls : List Zone) (z : Zone) (hs : List Zone) → length (ls ++ z ∷ hs) ≡ 30 → length ls < 30
 class-below ls z hs e = omega (arith, length-append ls (z ∷ hs))
@@ -196,7 +196,7 @@ module _ (R : ℕ) (small : R ≤ 1024) (ls : List Zone) where
       let r : List Spot = row c f pre ++ row c (q + cells c) post in
       home-rewritten R small (ls ++ z ∷ hs) (ls ++ z' ∷ hs) v v' c q b b' (spots 0 ls ++ (r ++ spots (suc c) hs)) t
       (sym (zone-written ls z z hs)
-      ∙ ap₂ (λ (x y : ℕ). over (entries (ls ++ z ∷ hs)) (4 * length ls) (bytes16 x ++ bytes16 y)) (first-zone f pre b post ∙ sym (first-zone f pre b' post))
+      ∙ ap₂ (λ (x y : ℕ). over (zoneEntries (ls ++ z ∷ hs)) (4 * length ls) (bytes16 x ++ bytes16 y)) (first-zone f pre b post ∙ sym (first-zone f pre b' post))
       (many-zone f (pre ++ b ∷ post) ∙ length-append pre (b ∷ post) ∙ sym (many-zone f (pre ++ b' ∷ post) ∙ length-append pre (b' ∷ post)))
       ∙ zone-written ls z z' hs)
       (in-zone f (pre ++ b ∷ post) hs (spot c q b) r (gone-before c f pre b post))

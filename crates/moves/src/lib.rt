@@ -2,6 +2,7 @@
 pub mod close;
 pub mod slide;
 
+use home::AREA;
 use home::classes::cells;
 use home::lookup::index_of;
 ghost use mathlib.Core.Path.{_≡_};
@@ -84,9 +85,9 @@ pub fn move_block(home: &mut [u8], c: usize, from: usize, to: usize)
     requires { ⌜ Movable (now home) from ⌝ }
     ensures { λ _. ⌜ now (home .exit) ≡ moved (now (home .entry)) c from to ⌝ }
 {
-    let tag = wire::get32(home, 1664 + 8 * from);
+    let tag = wire::get32(home, AREA + 8 * from);
     let i = index_of(home, tag);
     let n = 8 * cells(c);
-    carry(home, 1664 + 8 * from, 1664 + 8 * to, n);
+    carry(home, AREA + 8 * from, AREA + 8 * to, n);
     set_cell(home, i, to);
 }

@@ -8,7 +8,8 @@ use Rattle.parse.specs.declared.Word.{Word}
 use Rattle.parse.specs.declared.Word.the-variants.{Put, Del, Set, Drop, Show}
 use Rattle.parse.specs.declared.Parsed.{Parsed}
 use Rattle.parse.specs.declared.Parsed.the-variants.{Good, Bad}
-use Rattle.parse.specs.Grammar.{fields, wordOf, isDigit, digitsOnly, valueFrom, leads, numberOf, built, commandOf, parsed}
+use Rattle.text.specs.Text.{fields, isDigit, digitsOnly, valueFrom, leads, numberOf}
+use Rattle.parse.specs.Grammar.{wordOf, built, commandOf, parsed}
 
 -- a command as numbers: word, tag, level, second, phone, minutes; nothing for a bad line
 numberOfWord : Word → ℕ

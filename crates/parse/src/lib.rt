@@ -1,11 +1,15 @@
 // A line of text read as a command.
 use records::Record;
+use text::Number;
+use text::find;
+use text::number_of;
 ghost use mathlib.Core.Path.{_≡_};
-ghost use Prim.Native.Nat.{_+_, _-_, _≤_, _<_};
-ghost use lib.ListN.{length, drop};
+ghost use Prim.Native.Nat.{_-_, _≤_, _<_};
+ghost use lib.ListN.{length};
 ghost use Rattle.wire.specs.Bytes.{part};
-ghost use Rattle.parse.specs.Grammar.{leads, numberOf, wordOf, built, parsed};
-ghost use Rattle.parse.specs.Commas.{before, Below, atCommas};
+ghost use Rattle.text.specs.Text.{numberOf, Below};
+ghost use Rattle.parse.specs.Grammar.{wordOf, built, parsed};
+ghost use Rattle.parse.specs.Commas.{atCommas};
 
 // A command's word; `list` is Show.
 pub enum Word {
@@ -16,15 +20,10 @@ pub enum Word {
     Show,
 }
 
-// A field read as a word, or as a number.
+// A field read as a word.
 pub enum Named {
     Known(Word),
     Unknown,
-}
-
-pub enum Number {
-    Value(u32),
-    NoNumber,
 }
 
 // A line's command: the word, the tag and the call.
@@ -48,64 +47,6 @@ const SET: [u8; 3] = *b"set";
 const DROP: [u8; 4] = *b"drop";
 
 const LIST: [u8; 4] = *b"list";
-
-// The place of a byte's first instance at or after an offset, or the line's length.
-pub fn find(line: &[u8], from: usize, byte: u8) -> usize
-    requires { ⌜ from ≤ length (now line) ⌝ }
-    ensures { λ r. ⌜ (r ≡ from + before byte (drop from (now (line .entry)))) × (r ≤ length (now (line .entry))) ⌝ }
-{
-    let mut i = from;
-    while i < line.len() {
-        if line[i] == byte {
-            return i;
-        }
-        i += 1;
-    }
-    i
-}
-
-fn wide(x: u8) -> u64
-    ensures { λ r. ⌜ (r ≡ x) × (r < 256) ⌝ }
-{
-    x as u64
-}
-
-// Whether a field begins as a number: not empty, and no needless zero first.
-fn led(s: &[u8]) -> bool
-    ensures { λ r. ⌜ r ≡ leads (now (s .entry)) ⌝ }
-{
-    if s.len() < 2 {
-        return s.len() == 1;
-    }
-    s[0] != 48
-}
-
-// A field as a number up to `most`.
-fn number_of(s: &[u8], most: u32) -> Number
-    ensures { λ r. ⌜ r ≡ numberOf most (now (s .entry)) ⌝ }
-{
-    if !led(s) {
-        return Number::NoNumber;
-    }
-    let most = most as u64;
-    let mut v: u64 = 0;
-    let mut i = 0;
-    while i < s.len() {
-        let d = wide(s[i]);
-        if d < 48 {
-            return Number::NoNumber;
-        }
-        if 57 < d {
-            return Number::NoNumber;
-        }
-        v = v * 10 + (d - 48);
-        if most < v {
-            return Number::NoNumber;
-        }
-        i += 1;
-    }
-    Number::Value(v as u32)
-}
 
 // A field as a word.
 fn word_of(s: &[u8]) -> Named

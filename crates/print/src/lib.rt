@@ -1,35 +1,15 @@
 // Answers printed. Each function writes from an offset on and answers the offset behind what it wrote.
 use records::Record;
+use text::put_field;
 ghost use mathlib.Core.Path.{_≡_};
 ghost use Prim.Native.Nat.{_+_, _/_, _≤_};
 ghost use lib.ListN.{length};
 ghost use Rattle.wire.specs.Bytes.{over};
 ghost use Rattle.records.specs.Records.{decode};
-ghost use Rattle.print.specs.Print.{digits, recordLine, listLines, okLine, noLine, badLine, field, headLine};
+ghost use Rattle.print.specs.Print.{recordLine, listLines, longest, okLine, noLine, badLine, headLine};
 
-// Prints a number: its last digit behind those before it.
-fn put_number(out: &mut [u8], at: usize, v: u32) -> usize
-    requires { ⌜ at + length (digits v) ≤ length (now out) ⌝ }
-    ensures { λ r. ⌜ (now (out .exit) ≡ over (now (out .entry)) at (digits v)) × (r ≡ at + length (digits v)) ⌝ }
-{
-    if v < 10 {
-        out[at] = (48 + v) as u8;
-        return at + 1;
-    }
-    let end = put_number(out, at, v / 10);
-    out[end] = (48 + v % 10) as u8;
-    end + 1
-}
-
-// Prints a number and the byte that ends it.
-fn put_field(out: &mut [u8], at: usize, v: u32, end: u8) -> usize
-    requires { ⌜ at + length (field v end) ≤ length (now out) ⌝ }
-    ensures { λ r. ⌜ (now (out .exit) ≡ over (now (out .entry)) at (field v end)) × (r ≡ at + length (field v end)) ⌝ }
-{
-    let next = put_number(out, at, v);
-    out[next] = end;
-    next + 1
-}
+// The bytes of the longest answer, that of a list of 989 records.
+pub const LONGEST: usize = 24745;
 
 // Prints a record: level, second, phone, minutes.
 pub fn put_record(out: &mut [u8], at: usize, r: Record) -> usize
@@ -81,8 +61,8 @@ fn put_head(out: &mut [u8], tag: u32, count: u32) -> usize
 
 // Prints a list's tag and count, and each of its records.
 pub fn put_list(out: &mut [u8], tag: u32, list: &[u8]) -> usize
-    requires { ⌜ (length (now list) / 8 ≤ 989) × (24745 ≤ length (now out)) ⌝ }
-    ensures { λ r. ⌜ (now (out .exit) ≡ over (now (out .entry)) 0 (listLines tag (decode (now (list .entry))))) × (r ≡ length (listLines tag (decode (now (list .entry))))) × (r ≤ 24745) ⌝ }
+    requires { ⌜ (length (now list) / 8 ≤ 989) × (longest ≤ length (now out)) ⌝ }
+    ensures { λ r. ⌜ (now (out .exit) ≡ over (now (out .entry)) 0 (listLines tag (decode (now (list .entry))))) × (r ≡ length (listLines tag (decode (now (list .entry))))) × (r ≤ longest) ⌝ }
 {
     let n = list.len() / 8;
     let mut at = put_head(out, tag, n as u32);

@@ -6,8 +6,9 @@ use lib.Dec.{ltb}
 use Rattle.wire.specs.Bytes.{over}
 use Rattle.wire.specs.Rules.{rule, Ruled, behind}
 use Rattle.records.specs.declared.Record.{Record}
-use Rattle.records.specs.declared.Merge.{Merge}
-use Rattle.records.specs.Records.{merge, encode}
+use Rattle.merges.specs.declared.Merge.{Merge}
+use Rattle.records.specs.Records.{encode}
+use Rattle.merges.specs.Merging.{merge}
 use Rattle.home.specs.declared.Answer.{Answer}
 use Rattle.home.specs.declared.Answer.the-variants.{Count}
 use Rattle.gates.specs.declared.Of.{Of}

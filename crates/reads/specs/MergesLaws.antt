@@ -10,8 +10,9 @@ use Rattle.wire.specs.Bytes.{over}
 use Rattle.wire.specs.Rules.{first, refusal, answered, left}
 use Rattle.wire.specs.RulesLaws.{refused-here, passed-one, is-refused, is-done, gate-refuses, gate-opens}
 use Rattle.records.specs.declared.Record.{Record}
-use Rattle.records.specs.declared.Merge.{Merge}
-use Rattle.records.specs.Records.{merge, encode, decode}
+use Rattle.merges.specs.declared.Merge.{Merge}
+use Rattle.records.specs.Records.{encode, decode}
+use Rattle.merges.specs.Merging.{merge}
 use Rattle.records.specs.Edits.{decode-encode}
 use Rattle.home.specs.EditsLaws.{valid-listed}
 use Rattle.home.specs.HomeLaws.{all-mem}

@@ -24,6 +24,6 @@ countIn of bs t = first Refused (gateRules of bs) (Count (length (listIn of bs t
 unfoldable pub showIn : Of → List ℕ → ℕ → List ℕ
 showIn of bs t = first (λ n. []) (gateRules of bs) (encode (listIn of bs t))
 
--- where that part begins; 0 for an empty one
+-- where that part begins: with home for an unknown tag, 0 on refusal
 unfoldable pub showFrom : Of → List ℕ → ℕ → ℕ
 showFrom of bs t = first (λ n. 0) (gateRules of bs) (homeFrom of bs + offsetOf (homeIn of bs) t)

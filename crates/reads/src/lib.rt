@@ -2,11 +2,12 @@
 use gates::Access;
 use gates::Of;
 use home::Answer;
-use records::Merge;
+use merges::Merge;
 ghost use mathlib.Core.Path.{_≡_};
 ghost use Prim.Native.Nat.{_+_};
 ghost use Rattle.wire.specs.Rules.{answered, left};
-ghost use Rattle.records.specs.Records.{merge as merged, decode};
+ghost use Rattle.records.specs.Records.{decode};
+ghost use Rattle.merges.specs.Merging.{merge as merged};
 ghost use Rattle.reads.specs.Reads.{countIn, showIn, showFrom};
 ghost use Rattle.reads.specs.Merges.{written, mergeIn};
 

@@ -4,9 +4,8 @@ use Prim.Native.Nat.{ℕ}
 use mathlib.Core.Bool.{true, false}
 use mathlib.Core.List.{List, [], _∷_}
 use Rattle.records.specs.declared.Record.{Record}
-use Rattle.records.specs.declared.Place.the-variants.{Found, Absent}
-use Rattle.records.specs.declared.Merge.the-variants.{Both, Either, Without}
-use Rattle.records.specs.Records.{key, before, risingFrom, rising, look, rank, place, insert, remove, amend, keeps, merge, bytesOf, encode, recordAt, records, decode, inserted, removed, amended, up, down}
+use Rattle.records.specs.declared.Rank.the-variants.{Found, Absent}
+use Rattle.records.specs.Records.{key, before, risingFrom, rising, look, rank, ranked, insert, remove, amend, bytesOf, encode, recordAt, records, decode, inserted, removed, amended, up, down}
 use Rattle.wire.specs.Bytes.{part, over, get16, get32, bytes16, bytes32}
 
 abbrev call : ℕ → ℕ → ℕ → ℕ → Record
@@ -26,16 +25,16 @@ unfolding risingFrom key
 sample-rising = refl
 
 -- the same call with other minutes is there already, and two such records are no list
-same-call : place (key (call 1 100 3 5)) sample ≡ Found 1
-unfolding place look rank key
+same-call : ranked (key (call 1 100 3 5)) sample ≡ Found 1
+unfolding ranked look rank key
 same-call = refl
 
 tie : rising (call 1 100 3 0 ∷ call 1 100 3 5 ∷ []) ≡ false
 unfolding risingFrom key
 tie = refl
 
-between : place (key (call 1 100 4 0)) sample ≡ Absent 2
-unfolding place look rank key
+between : ranked (key (call 1 100 4 0)) sample ≡ Absent 2
+unfolding ranked look rank key
 between = refl
 
 -- numbers are unsigned
@@ -58,21 +57,6 @@ taken = refl
 longer : amend (key (call 1 100 9 0)) 7 sample ≡ call 0 500 9 1 ∷ call 1 100 3 0 ∷ call 1 100 9 7 ∷ []
 unfolding amend key
 longer = refl
-
-abbrev other : List Record
-other = call 0 400 1 8 ∷ call 1 100 3 9 ∷ call 2 0 0 4 ∷ []
-
-in-both : merge Both sample other ≡ call 1 100 3 0 ∷ []
-unfolding merge keeps key
-in-both = refl
-
-in-either : merge Either sample other ≡ call 0 400 1 8 ∷ call 0 500 9 1 ∷ call 1 100 3 0 ∷ call 1 100 9 0 ∷ call 2 0 0 4 ∷ []
-unfolding merge keeps key
-in-either = refl
-
-in-first : merge Without sample other ≡ call 0 500 9 1 ∷ call 1 100 9 0 ∷ []
-unfolding merge keeps key
-in-first = refl
 
 -- on bytes: put in at rank 1 with a free cell behind, and taken out again
 bytes-in : inserted (encode (call 1 0 0 0 ∷ call 3 0 0 0 ∷ call 0 0 0 0 ∷ [])) 1 (call 2 7 7 7) ≡ encode (call 1 0 0 0 ∷ call 2 7 7 7 ∷ call 3 0 0 0 ∷ [])

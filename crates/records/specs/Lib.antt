@@ -1,7 +1,6 @@
 pub mod Records
 pub mod Examples
 pub mod Order
-pub mod Merging
 pub mod Cells
 pub mod LoopLaws
 pub mod Moves

@@ -11,8 +11,8 @@ use borrow.Author.Tests.{ltb-true, lt-ltb, le-ltb, le-leb, leb-true, eq-eqb, ne-
 use Rattle.wire.specs.Bytes.{pick}
 use Rattle.wire.specs.Cases.{by-test, by-lt, by-eq, both, never, bool-iff, ltb-iff}
 use Rattle.records.specs.declared.Record.{Record}
-use Rattle.records.specs.declared.Place.the-variants.{Found, Absent}
-use Rattle.records.specs.Records.{Fits, key, before, risingFrom, rising, look, held, rank, place, below, tally, insert, remove, lasting, amend}
+use Rattle.records.specs.declared.Rank.the-variants.{Found, Absent}
+use Rattle.records.specs.Records.{Fits, key, before, risingFrom, rising, look, held, rank, ranked, below, tally, insert, remove, lasting, amend}
 
 -- ---- the order is that of the keys
 
@@ -219,21 +219,21 @@ held-end k (x ∷ xs) e =
     (λ h. absurd (omega (arith, rank-here k x xs h)))
 
 -- the three ends of a search
-pub place-found : (k i : ℕ) (xs : List Record) (z : Record) → rising xs ≡ true → rank k xs ≡ i → i < length xs → key (getD xs i z) ≡ k → Found i ≡ place k xs
-unfolding place
-place-found k i xs z e q g h =
+pub ranked-found : (k i : ℕ) (xs : List Record) (z : Record) → rising xs ≡ true → rank k xs ≡ i → i < length xs → key (getD xs i z) ≡ k → Found i ≡ ranked k xs
+unfolding ranked
+ranked-found k i xs z e q g h =
     let a : held (look k xs) ≡ true = held-rank k 0 xs z e (omega arith) ∙ eq-eqb _ k (rw q h) in
     rw (a, q)
 
-pub place-absent : (k i : ℕ) (xs : List Record) (z : Record) → rising xs ≡ true → rank k xs ≡ i → i < length xs → (key (getD xs i z) ≡ k → ⊥) → Absent i ≡ place k xs
-unfolding place
-place-absent k i xs z e q g h =
+pub ranked-absent : (k i : ℕ) (xs : List Record) (z : Record) → rising xs ≡ true → rank k xs ≡ i → i < length xs → (key (getD xs i z) ≡ k → ⊥) → Absent i ≡ ranked k xs
+unfolding ranked
+ranked-absent k i xs z e q g h =
     let a : held (look k xs) ≡ false = held-rank k 0 xs z e (omega arith) ∙ ne-eqb _ k (rw q h) in
     rw (a, q)
 
-pub place-end : (k i : ℕ) (xs : List Record) → rank k xs ≡ i → i ≡ length xs → Absent i ≡ place k xs
-unfolding place
-place-end k i xs q g = let a : held (look k xs) ≡ false = held-end k xs (q ∙ g) in rw (a, q)
+pub ranked-end : (k i : ℕ) (xs : List Record) → rank k xs ≡ i → i ≡ length xs → Absent i ≡ ranked k xs
+unfolding ranked
+ranked-end k i xs q g = let a : held (look k xs) ≡ false = held-end k xs (q ∙ g) in rw (a, q)
 
 -- ---- insert
 
@@ -268,9 +268,9 @@ insert-rank r (x ∷ xs) =
     (λ d. rw (insert-here r x xs d, rank-here (key r) x xs d) (rank-here (key r) r (x ∷ xs) (omega arith)))
 
 -- once put in, a record is found at the rank that was foretold
-pub insert-place : (r : Record) (xs : List Record) → place (key r) (insert r xs) ≡ Found (rank (key r) xs)
-unfolding place
-insert-place r xs = rw (insert-look (key r) r xs, eq-eqb (key r) (key r) refl, insert-rank r xs)
+pub insert-ranked : (r : Record) (xs : List Record) → ranked (key r) (insert r xs) ≡ Found (rank (key r) xs)
+unfolding ranked
+insert-ranked r xs = rw (insert-look (key r) r xs, eq-eqb (key r) (key r) refl, insert-rank r xs)
 
 pub insert-at : (r : Record) (xs : List Record) → insert r xs ≡ take (rank (key r) xs) xs ++ (r ∷ drop (rank (key r) xs) xs)
 insert-at r [] = rw (insert-nil, rank-nil)

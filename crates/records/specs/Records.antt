@@ -7,12 +7,8 @@ use lib.ListN.{length, set, getD, replicate}
 use lib.Dec.{ltb, leb, eqb}
 use Rattle.wire.specs.Bytes.{pick, part, over, get16, get32, bytes16, bytes32, isSome}
 use Rattle.records.specs.declared.Record.{Record}
-use Rattle.records.specs.declared.Place.{Place}
-use Rattle.records.specs.declared.Place.the-variants.{Found, Absent}
-use Rattle.records.specs.declared.Side.{Side}
-use Rattle.records.specs.declared.Side.the-variants.{First, Shared, Second}
-use Rattle.records.specs.declared.Merge.{Merge}
-use Rattle.records.specs.declared.Merge.the-variants.{Both, Either, Without}
+use Rattle.records.specs.declared.Rank.{Rank}
+use Rattle.records.specs.declared.Rank.the-variants.{Found, Absent}
 
 -- one for a call that counts, none for one that does not
 unfoldable pub tally : Bool → ℕ
@@ -68,8 +64,8 @@ below k [] = 0
 below k (x ∷ xs) = tally (ltb (key x) k) + below k xs
 
 -- whether a key is there, and its rank
-unfoldable pub place : ℕ → List Record → Place
-place k xs = pick (held (look k xs)) (Found (rank k xs)) (Absent (rank k xs))
+unfoldable pub ranked : ℕ → List Record → Rank
+ranked k xs = pick (held (look k xs)) (Found (rank k xs)) (Absent (rank k xs))
 
 -- "Put a record": before the first that does not stand before it
 unfoldable pub insert : Record → List Record → List Record
@@ -89,60 +85,6 @@ lasting r m = record { level = r .level; second = r .second; phone = r .phone; m
 unfoldable pub amend : ℕ → ℕ → List Record → List Record
 amend k m [] = []
 amend k m (x ∷ xs) = pick (eqb (key x) k) (lasting x m ∷ xs) (x ∷ amend k m xs)
-
--- ---- two lists
-
--- whether the lowest call of two lists stands in the first alone, in both, or in the second alone
-unfoldable pub side : List Record → List Record → Side
-side [] ys = Second
-side (x ∷ xs) [] = First
-side (x ∷ xs) (y ∷ ys) = pick (ltb (key x) (key y)) First (pick (ltb (key y) (key x)) Second Shared)
-
--- "Both, either, first-without-second": which calls are kept
-unfoldable pub keeps : Merge → Side → Bool
-keeps Both First = false
-keeps Both Shared = true
-keeps Both Second = false
-keeps Either w = true
-keeps Without First = true
-keeps Without Shared = false
-keeps Without Second = false
-
-abbrev pub keep : Bool → Record → List Record → List Record
-keep b x xs = pick b (x ∷ xs) xs
-
--- how many records of each list that call takes up, and whose record it is
-unfoldable pub ofFirst : Side → ℕ
-ofFirst First = 1
-ofFirst Shared = 1
-ofFirst Second = 0
-
-unfoldable pub ofSecond : Side → ℕ
-ofSecond First = 0
-ofSecond Shared = 1
-ofSecond Second = 1
-
-unfoldable pub next : Side → Record → Record → Record
-next First x y = x
-next Shared x y = x
-next Second x y = y
-
--- "of two lists by primary part .. with the first list's minutes where both have the call"
-unfoldable pub merge : Merge → List Record → List Record → List Record
-merge m [] [] = []
-merge m [] (y ∷ ys) = keep (keeps m Second) y (merge m [] ys)
-merge m (x ∷ xs) [] = keep (keeps m First) x (merge m xs [])
-merge m (x ∷ xs) (y ∷ ys) =
-    pick (ltb (key x) (key y)) (keep (keeps m First) x (merge m xs (y ∷ ys)))
-    (pick (ltb (key y) (key x)) (keep (keeps m Second) y (merge m (x ∷ xs) ys))
-    (keep (keeps m Shared) x (merge m xs ys)))
-
--- what a call's record in the result is, by its records in the two lists
-unfoldable pub merged : Merge → Option Record → Option Record → Option Record
-merged m none none = none
-merged m none (some y) = pick (keeps m Second) (some y) none
-merged m (some x) none = pick (keeps m First) (some x) none
-merged m (some x) (some y) = pick (keeps m Shared) (some x) none
 
 -- ---- bytes
 

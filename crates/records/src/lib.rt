@@ -4,7 +4,7 @@ ghost use mathlib.Core.Bool.{true};
 ghost use Prim.Native.Nat.{_+_, _*_, _/_, _≤_, _<_};
 ghost use lib.ListN.{length, getD};
 ghost use Rattle.wire.specs.Bytes.{get32, over};
-ghost use Rattle.records.specs.Records.{key, recordAt, bytesOf, decode, rising as ordered, place, inserted, removed, amended};
+ghost use Rattle.records.specs.Records.{key, recordAt, bytesOf, decode, rising as ordered, ranked, inserted, removed, amended};
 
 // A call on record. Level, second and phone are its primary part.
 pub struct Record {
@@ -15,23 +15,9 @@ pub struct Record {
 }
 
 // Where a key stands in a list, or would stand: the records before it.
-pub enum Place {
+pub enum Rank {
     Found(usize),
     Absent(usize),
-}
-
-// Where the lowest call of two lists stands.
-pub enum Side {
-    First,
-    Shared,
-    Second,
-}
-
-// What is made of two lists.
-pub enum Merge {
-    Both,
-    Either,
-    Without,
 }
 
 // A record's primary part as one number.
@@ -138,9 +124,9 @@ pub fn rising(s: &[u8]) -> bool
 }
 
 // Finds a key in a rising list by halving.
-pub fn search(s: &[u8], key: u64) -> Place
+pub fn search(s: &[u8], key: u64) -> Rank
     requires { ⌜ ordered (decode (now s)) ≡ true ⌝ }
-    ensures { λ r. ⌜ r ≡ place key (decode (now (s .entry))) ⌝ }
+    ensures { λ r. ⌜ r ≡ ranked key (decode (now (s .entry))) ⌝ }
 {
     let n = s.len() / 8;
     let mut low = 0;
@@ -154,12 +140,12 @@ pub fn search(s: &[u8], key: u64) -> Place
         }
     }
     if low == n {
-        return Place::Absent(low);
+        return Rank::Absent(low);
     }
     if key_at(s, low) == key {
-        Place::Found(low)
+        Rank::Found(low)
     } else {
-        Place::Absent(low)
+        Rank::Absent(low)
     }
 }
 

@@ -12,7 +12,7 @@ use Rattle.wire.specs.BytesLaws.{length-over, over-comm, part-else, get16-else,
 use Rattle.wire.specs.Cases.{by-test, by-eq, by-lt}
 use Rattle.home.specs.Capacities.{cells}
 use Rattle.home.specs.Cases.{map-swap}
-use Rattle.home.specs.Bytes.{cellAt, entryAt, firstAt, manyAt, endAt}
+use Rattle.home.specs.Bytes.{cellAt, zoneEntryAt, firstAt, manyAt, endAt}
 use Rattle.home.specs.Lookup.{rankAt, indexOf}
 use Rattle.moves.specs.Moves.{wordAt, Movable, carried, celled, moved, zoned}
 use Rattle.seats.specs.Seat.{firstWith, endFrom, displaced, raised, Stacked}
@@ -60,7 +60,7 @@ module _ (low : List ℕ) (c : ℕ) (long : length low ≡ 4 * c) (under : c ≤
 
   pub mask-zoned : (h : List ℕ) (d f n : ℕ) → c ≤ d → zoned (masked low h) d f n ≡ masked low (zoned h d f n)
   unfolding zoned
-  mask-zoned h d f n g = mask-over h (entryAt d) (bytes16 f ++ bytes16 n) (omega arith)
+  mask-zoned h d f n g = mask-over h (zoneEntryAt d) (bytes16 f ++ bytes16 n) (omega arith)
 
   mask-displaced : (h : List ℕ) (d f n q : ℕ) → c ≤ d → displaced (masked low h) d f n q ≡ masked low (displaced h d f n q)
   unfolding displaced
@@ -71,10 +71,10 @@ module _ (low : List ℕ) (c : ℕ) (long : length low ≡ 4 * c) (under : c ≤
 
   module _ (h : List ℕ) (d : ℕ) (g : c ≤ d) where
     pub mask-first : firstAt (masked low h) d ≡ firstAt h d
-    mask-first = mask-16 h (entryAt d) (omega arith)
+    mask-first = mask-16 h (zoneEntryAt d) (omega arith)
 
     pub mask-many : manyAt (masked low h) d ≡ manyAt h d
-    mask-many = mask-16 h (entryAt d + 2) (omega arith)
+    mask-many = mask-16 h (zoneEntryAt d + 2) (omega arith)
 
     pub mask-end : (e : ℕ) → endAt (masked low h) d e ≡ endAt h d e
     unfolding endAt

@@ -9,7 +9,7 @@ use Rattle.wire.specs.Bytes.{part, over, get16, get32, bytes16}
 use Rattle.wire.specs.BytesLaws.{length-over, length-bytes16, get16-else, get32-else}
 use Rattle.wire.specs.Cases.{by-lt}
 use Rattle.home.specs.Capacities.{cells}
-use Rattle.home.specs.Bytes.{cellAt, entryAt, tagAt}
+use Rattle.home.specs.Bytes.{cellAt, zoneEntryAt, tagAt}
 use Rattle.home.specs.Lookup.{Ordered, rankAt, indexOf}
 use Rattle.moves.specs.Moves.{wordAt, Movable, carried, celled, moved, zoned}
 use Rattle.seats.specs.Seat.{firstWith, displaced}
@@ -83,10 +83,10 @@ untouched-zone lo h c f n g =
     let v : List ℕ = bytes16 f ++ bytes16 n in
     let lv : length v ≡ 4 = length-append (bytes16 f) (bytes16 n) ∙ omega (arith, length-bytes16 f, length-bytes16 n) in
     record {
-      long = length-over h (entryAt c) v;
-      count = get16-else h (entryAt c) v 0 (inr (omega arith));
-      tags = λ i k. get32-else h (entryAt c) v (128 + 6 * i) (inl (omega arith));
-      heads = λ p k. get32-else h (entryAt c) v (cellAt p) (inl (omega arith));
+      long = length-over h (zoneEntryAt c) v;
+      count = get16-else h (zoneEntryAt c) v 0 (inr (omega arith));
+      tags = λ i k. get32-else h (zoneEntryAt c) v (128 + 6 * i) (inl (omega arith));
+      heads = λ p k. get32-else h (zoneEntryAt c) v (cellAt p) (inl (omega arith));
     }
 
 untouched-moved : (lo : ℕ) (h : List ℕ) (c p q : ℕ) → Movable h p → lo ≤ p → lo ≤ q → Untouched lo h (moved h c p q)
@@ -110,5 +110,5 @@ length-displaced h c f n q =
     let z : List ℕ = over h (cellAt f) (replicate (8 * cells c) 0) in
     let l : List ℕ = over z (cellAt q) (part h (cellAt f) (8 * cells c)) in
     let i : ℕ = wordAt (indexOf h (get32 h (cellAt f))) + 4 in
-    length-over (over l i (bytes16 q)) (entryAt c) (bytes16 (firstWith n (f + cells c) q) ++ bytes16 (n + 1)) ∙ length-over l i (bytes16 q)
+    length-over (over l i (bytes16 q)) (zoneEntryAt c) (bytes16 (firstWith n (f + cells c) q) ++ bytes16 (n + 1)) ∙ length-over l i (bytes16 q)
     ∙ length-over z (cellAt q) (part h (cellAt f) (8 * cells c)) ∙ length-over h (cellAt f) (replicate (8 * cells c) 0)

@@ -1,4 +1,5 @@
 // A cell for a block, by the same rule for a new block and for one that it displaces.
+use home::AREA;
 use home::classes::cells;
 use home::lookup::zone_count;
 use home::lookup::zone_end;
@@ -82,7 +83,7 @@ pub fn seat(home: &mut [u8], c: usize, f: usize, n: usize, e: usize) -> Room
     let end = p + k;
     let d = next_zone(home, c + 1);
     if d == 30 {
-        return room_if(1664 + 8 * end <= home.len(), p);
+        return room_if(AREA + 8 * end <= home.len(), p);
     }
     let first = zone_first(home, d);
     if end <= first {

@@ -11,6 +11,7 @@ use lib.Seq.{take-all, take-add, take-append-add, take-append-le, take-append-se
 use borrow.Author.Tests.{eq-eqb, ne-eqb, le-leb}
 use Rattle.wire.specs.Cases.{by-lt, never}
 use Rattle.parse.specs.Grammar.{parsed}
+use Rattle.print.specs.Print.{longest}
 use Rattle.lines.specs.Answer.{lineText}
 use Rattle.stream.specs.declared.Fed.{Fed}
 use Rattle.stream.specs.Stream.{Open, state, linesOf, answered, reply, after, said, ending, ended}
@@ -59,7 +60,7 @@ taken-turn s t p out from sent m f kept image space out' a g e =
 
 -- with room for an answer some bytes are used, and none that are not there
 pub turn-uses : (s : Open) (p out : List ℕ) (from : ℕ) (f : Fed) (kept image space out' : List ℕ) → Feeds s (take (length p - from) (drop from p)) out f kept image space out'
-    → (f .used < length (take (length p - from) (drop from p)) → length out < f .printed + 24745) → 24745 ≤ length out → from < length p → (0 < f .used) × (from + f .used ≤ length p)
+    → (f .used < length (take (length p - from) (drop from p)) → length out < f .printed + longest) → longest ≤ length out → from < length p → (0 < f .used) × (from + f .used ≤ length p)
 unfolding said
 turn-uses s p out from f kept image space out' g h q b =
     let rest : List ℕ = take (length p - from) (drop from p) in

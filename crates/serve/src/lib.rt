@@ -1,6 +1,7 @@
 // An index served: lines from standard input, their answers to standard output.
 ghost use Prim.Native.Nat.{_≤_, _<_};
 ghost use lib.ListN.{length, take};
+ghost use Rattle.print.specs.Print.{longest};
 ghost use Rattle.stream.specs.Stream.{state};
 ghost use Rattle.serve.specs.Served.{Passes, Serves, Ends};
 
@@ -44,7 +45,7 @@ fn pass(
     piece: &[u8],
     out: &mut [u8],
 ) -> Passed
-    requires { ⌜ (held ≤ 81) × (81 ≤ length (now kept)) × (length (now piece) ≤ 65536) × (24745 ≤ length (now out)) × (length (now out) ≤ 65536) ⌝ }
+    requires { ⌜ (held ≤ 81) × (81 ≤ length (now kept)) × (length (now piece) ≤ 65536) × (longest ≤ length (now out)) × (length (now out) ≤ 65536) ⌝ }
     ensures { λ r. ⌜ Passes (state (take held (now (kept .entry))) (now (image .entry)) (now (space .entry))) (now (piece .entry)) (r .written) (r .sent) (state (take (r .held) (now (kept .exit))) (now (image .exit)) (now (space .exit))) ⌝ }
     ensures { λ r. ⌜ (r .held ≤ 81) × (r .sent ≤ 4294967296) ⌝ }
 {
@@ -85,7 +86,7 @@ fn end(
     read: u64,
     sent: u64,
 ) -> Served
-    requires { ⌜ (held ≤ 81) × (81 ≤ length (now kept)) × (24745 ≤ length (now out)) × (length (now out) ≤ 65536) × (sent < 9223372036854775808) ⌝ }
+    requires { ⌜ (held ≤ 81) × (81 ≤ length (now kept)) × (longest ≤ length (now out)) × (length (now out) ≤ 65536) × (sent < 9223372036854775808) ⌝ }
     ensures { λ r. ⌜ Ends (state (take held (now (kept .entry))) (now (image .entry)) (now (space .entry))) read sent r (now (image .exit)) (now (space .exit)) ⌝ }
 {
     if held == 0 {
@@ -107,7 +108,7 @@ fn answer_all(
     buf: &mut [u8],
     out: &mut [u8],
 ) -> Served
-    requires { ⌜ (81 ≤ length (now kept)) × (length (now buf) ≤ 65536) × (24745 ≤ length (now out)) × (length (now out) ≤ 65536) ⌝ }
+    requires { ⌜ (81 ≤ length (now kept)) × (length (now buf) ≤ 65536) × (longest ≤ length (now out)) × (length (now out) ≤ 65536) ⌝ }
     ensures { λ r. ⌜ Serves (now (image .entry)) (now (space .entry)) r (now (image .exit)) (now (space .exit)) ⌝ }
 {
     let mut held = 0;

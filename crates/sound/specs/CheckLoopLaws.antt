@@ -16,7 +16,7 @@ use Rattle.records.specs.Records.{rising, records, decode}
 use Rattle.records.specs.Edits.{decode-part}
 use Rattle.home.specs.Capacities.{capacity, under, cells, classOf}
 use Rattle.home.specs.CapacitiesLaws.{cells-is, cells-pos, cells-most, class-below, class-holds, class-over, class-within}
-use Rattle.home.specs.Bytes.{cellAt, countAt, firstAt, manyAt, tagAt, placeAt, endAt}
+use Rattle.home.specs.Bytes.{cellAt, countAt, firstAt, manyAt, tagAt, entryCell, endAt}
 use Rattle.home.specs.EndLaws.{end-none, end-some}
 use Rattle.home.specs.Sound.{pagesOf, sized}
 use Rattle.sound.specs.Checks.{blockFine, blocksFine, lies, zoneFine, zonesFine, manyIn, starts, leads, tagsFine, checked}
@@ -284,7 +284,7 @@ module _ (h : List ℕ) (area p n : ℕ) (e : n ≡ countAt h p) where
 
 -- ---- the dictionary
 
-module _ (h : List ℕ) (area low i t p : ℕ) (et : t ≡ tagAt h i) (ep : p ≡ placeAt h i) where
+module _ (h : List ℕ) (area low i t p : ℕ) (et : t ≡ tagAt h i) (ep : p ≡ entryCell h i) where
   pub entry-low : t < low → false ≡ entryFine h area low i
   unfolding entryFine
   entry-low a = rw (← et, lt-leb low t a)
@@ -310,7 +310,7 @@ and-three false b c d = refl
 module _ (h : List ℕ) (area low i n : ℕ) (t : zonesFine h area 0 0 30 ≡ true) where
   tags-more : (k : ℕ) → entryFine h area low i && tagsFine h (tagAt h i + 1) (suc i) k ≡ tagsFine h low i (suc k)
   unfolding tagsFine entryFine
-  tags-more k = rw (leads-is h area (placeAt h i) t) (and-three (leb low (tagAt h i)) (leads h 0 30 (placeAt h i)) (eqb (get32 h (cellAt (placeAt h i))) (tagAt h i)) (tagsFine h (tagAt h i + 1) (suc i) k))
+  tags-more k = rw (leads-is h area (entryCell h i) t) (and-three (leb low (tagAt h i)) (leads h 0 30 (entryCell h i)) (eqb (get32 h (cellAt (entryCell h i))) (tagAt h i)) (tagsFine h (tagAt h i + 1) (suc i) k))
 
   pub tags-turn : i < n → entryFine h area low i ≡ true → tagsFine h (tagAt h i + 1) (i + 1) (n - (i + 1)) ≡ tagsFine h low i (n - i)
   tags-turn b u = let k : n - i ≡ suc (n - (i + 1)) = omega arith in rw (k, ← tags-more (n - (i + 1)), u, add-one i)

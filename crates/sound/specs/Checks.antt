@@ -6,7 +6,7 @@ use lib.Dec.{leb, ltb, eqb}
 use Rattle.wire.specs.Bytes.{pick, part, get16, get32, blank}
 use Rattle.records.specs.Records.{rising, records}
 use Rattle.home.specs.Capacities.{capacity, cells, classOf}
-use Rattle.home.specs.Bytes.{cellAt, countAt, firstAt, manyAt, tagAt, placeAt, endAt}
+use Rattle.home.specs.Bytes.{cellAt, countAt, firstAt, manyAt, tagAt, entryCell, endAt}
 use Rattle.home.specs.Sound.{pagesOf, sized}
 
 -- a block at cell p in zone c: conditions 11, 13, 7, 12 and 8
@@ -57,7 +57,7 @@ leads h c (suc n) p = starts h c p || leads h (suc c) n p
 unfoldable pub tagsFine : List ℕ → ℕ → ℕ → ℕ → Bool
 tagsFine h low i zero = true
 tagsFine h low i (suc n) =
-    leb low (tagAt h i) && (leads h 0 30 (placeAt h i) && (eqb (get32 h (cellAt (placeAt h i))) (tagAt h i) && tagsFine h (tagAt h i + 1) (suc i) n))
+    leb low (tagAt h i) && (leads h 0 30 (entryCell h i) && (eqb (get32 h (cellAt (entryCell h i))) (tagAt h i) && tagsFine h (tagAt h i + 1) (suc i) n))
 
 -- all of it: conditions 1, 2, 4, the zones, 15, the dictionary and 6
 unfoldable pub checked : List ℕ → Bool
@@ -78,4 +78,4 @@ leadsAt h area p = ltb p area && (ltb (countAt h p) 990 && starts h (classOf (co
 
 -- the i-th entry
 unfoldable pub entryFine : List ℕ → ℕ → ℕ → ℕ → Bool
-entryFine h area low i = leb low (tagAt h i) && (leadsAt h area (placeAt h i) && eqb (get32 h (cellAt (placeAt h i))) (tagAt h i))
+entryFine h area low i = leb low (tagAt h i) && (leadsAt h area (entryCell h i) && eqb (get32 h (cellAt (entryCell h i))) (tagAt h i))

@@ -21,7 +21,7 @@ use Rattle.home.specs.CapacitiesLaws.{class-holds}
 use Rattle.home.specs.Zones.{Block, Zone, empty, from, zone, blocks}
 use Rattle.home.specs.Perm.{In, Pairs, single, after}
 use Rattle.home.specs.Layout.{Sits, Laid, Fit, Valid}
-use Rattle.home.specs.Bytes.{blockBytes, Spot, row, spots, area, entries, Entry, entryOf, dictionary, entriesBytes, padded, encode, cellAt, entryAt, countAt, blockAt, blocksAt, firstAt, manyAt, zoneAt, zonesFrom, decode, tagAt, placeAt, entriesAt, endAt}
+use Rattle.home.specs.Bytes.{blockBytes, Spot, row, spots, area, zoneEntries, Entry, entryOf, dictionary, entriesBytes, padded, encode, cellAt, zoneEntryAt, countAt, blockAt, blocksAt, firstAt, manyAt, zoneAt, zonesFrom, decode, tagAt, entryCell, entriesAt, endAt}
 use Rattle.home.specs.Sound.{pagesOf, sized, Sound}
 use Rattle.sound.specs.CheckLoopLaws.{end-inside}
 use Rattle.sound.specs.Checks.{blockFine, blocksFine, zoneFine, zonesFine, manyIn, leads, tagsFine, checked, starts}
@@ -129,27 +129,27 @@ module _ (h : List ℕ) (bytes : Bytes h) where
     laid : Laid n c e zs
     reads : All (ReadsAt h) (spots c zs)
     clean : Clean (ZeroAt h) n c e zs
-    written : entries zs ≡ part h (entryAt c) (4 * k)
+    written : zoneEntries zs ≡ part h (zoneEntryAt c) (4 * k)
     many : length (blocks zs) ≡ manyIn h c k
 
   module _ (n : ℕ) (long : length h ≡ cellAt n) where
-    zone-found : (c e k f m : ℕ) (zs : List Zone) → entryAt (suc c) ≤ length h → firstAt h c ≡ f → manyAt h c ≡ m → e ≤ n → zoneFine h n c e ≡ true
+    zone-found : (c e k f m : ℕ) (zs : List Zone) → zoneEntryAt (suc c) ≤ length h → firstAt h c ≡ f → manyAt h c ≡ m → e ≤ n → zoneFine h n c e ≡ true
         → Found n (suc c) (endAt h c e) k zs → Found n c e (suc k) (zone f (blocksAt h c f m) ∷ zs)
-    unfolding zoneFine endAt zone blocksAt blocks entries manyIn spots row bytes16
+    unfolding zoneFine endAt zone blocksAt blocks zoneEntries manyIn spots row bytes16
     zone-found c e k f zero zs b qf qm en t r =
         let q0 : firstAt h c ≡ 0 = eqb-true (firstAt h c) 0 (rw qm at t) in
         let end : pick (eqb (manyAt h c) 0) e (firstAt h c + manyAt h c * cells c) ≡ e = rw qm in
         let r' : Found n (suc c) e k zs = subst (λ (x : ℕ). Found n (suc c) x k zs) end r in
         let four : 4 * suc k ≡ 2 + (2 + 4 * k) = omega arith in
-        let p1 : part h (entryAt c) 2 ≡ 0 ∷ 0 ∷ [] = sym (bytes16-read h (entryAt c) bytes (omega arith)) ∙ ap bytes16 q0 in
-        let p2 : part h (entryAt c + 2) 2 ≡ 0 ∷ 0 ∷ [] = sym (bytes16-read h (entryAt c + 2) bytes (omega arith)) ∙ ap bytes16 qm in
+        let p1 : part h (zoneEntryAt c) 2 ≡ 0 ∷ 0 ∷ [] = sym (bytes16-read h (zoneEntryAt c) bytes (omega arith)) ∙ ap bytes16 q0 in
+        let p2 : part h (zoneEntryAt c + 2) 2 ≡ 0 ∷ 0 ∷ [] = sym (bytes16-read h (zoneEntryAt c + 2) bytes (omega arith)) ∙ ap bytes16 qm in
         record {
           classes = ap suc (r' .classes);
           laid = r' .laid;
           reads = r' .reads;
           clean = r' .clean;
-          written = ap₂ (λ (x y : List ℕ). x ++ y) (sym p1) (ap₂ (λ (x y : List ℕ). x ++ y) (sym p2) (r' .written) ∙ sym (split h (entryAt c + 2) 2 (4 * k) (entryAt (suc c)) (omega arith)))
-              ∙ sym (split h (entryAt c) 2 (2 + 4 * k) (entryAt c + 2) refl) ∙ ap (part h (entryAt c)) (sym four);
+          written = ap₂ (λ (x y : List ℕ). x ++ y) (sym p1) (ap₂ (λ (x y : List ℕ). x ++ y) (sym p2) (r' .written) ∙ sym (split h (zoneEntryAt c + 2) 2 (4 * k) (zoneEntryAt (suc c)) (omega arith)))
+              ∙ sym (split h (zoneEntryAt c) 2 (2 + 4 * k) (zoneEntryAt c + 2) refl) ∙ ap (part h (zoneEntryAt c)) (sym four);
           many = rw qm (omega (arith, r' .many));
         }
     zone-found c e k f (suc m) zs b qf qm en t r =
@@ -167,23 +167,23 @@ module _ (h : List ℕ) (bytes : Bytes h) where
         let bs = found-blocks c f (suc m) (omega arith) (t4 .1) in
         let l : length (blocksAt h c (f + cells c) m) ≡ m = length-blocksAt c (f + cells c) m in
         let four : 4 * suc k ≡ 2 + (2 + 4 * k) = omega arith in
-        let p1 : part h (entryAt c) 2 ≡ bytes16 f = sym (bytes16-read h (entryAt c) bytes (omega arith)) ∙ ap bytes16 qf in
-        let p2 : part h (entryAt c + 2) 2 ≡ bytes16 (suc (length (blocksAt h c (f + cells c) m))) = sym (bytes16-read h (entryAt c + 2) bytes (omega arith)) ∙ ap bytes16 (qm ∙ ap suc (sym l)) in
+        let p1 : part h (zoneEntryAt c) 2 ≡ bytes16 f = sym (bytes16-read h (zoneEntryAt c) bytes (omega arith)) ∙ ap bytes16 qf in
+        let p2 : part h (zoneEntryAt c + 2) 2 ≡ bytes16 (suc (length (blocksAt h c (f + cells c) m))) = sym (bytes16-read h (zoneEntryAt c + 2) bytes (omega arith)) ∙ ap bytes16 (qm ∙ ap suc (sym l)) in
         record {
           classes = ap suc (r' .classes);
           laid = (record { after = ef; tight = fe; sit = bs .0 }, rw l (r' .laid));
           reads = all-append (bs .1) (r' .reads);
           clean = (blank-part h (cellAt e) (8 * (f - e)) (omega arith) (t4 .0), rw l (r' .clean));
-          written = ap₂ (λ (x y : List ℕ). x ++ y) (sym p1) (ap₂ (λ (x y : List ℕ). x ++ y) (sym p2) (r' .written) ∙ sym (split h (entryAt c + 2) 2 (4 * k) (entryAt (suc c)) (omega arith)))
-              ∙ sym (split h (entryAt c) 2 (2 + 4 * k) (entryAt c + 2) refl) ∙ ap (part h (entryAt c)) (sym four);
+          written = ap₂ (λ (x y : List ℕ). x ++ y) (sym p1) (ap₂ (λ (x y : List ℕ). x ++ y) (sym p2) (r' .written) ∙ sym (split h (zoneEntryAt c + 2) 2 (4 * k) (zoneEntryAt (suc c)) (omega arith)))
+              ∙ sym (split h (zoneEntryAt c) 2 (2 + 4 * k) (zoneEntryAt c + 2) refl) ∙ ap (part h (zoneEntryAt c)) (sym four);
           many = rw qm (simp length-append (omega (arith, r' .many, l)));
         }
 
-    zones-found : (c e k : ℕ) → entryAt (c + k) ≤ length h → e ≤ n → zonesFine h n c e k ≡ true → Found n c e k (zonesFrom h c k)
-    unfolding zonesFine zonesFrom zoneAt entries spots blocks manyIn
+    zones-found : (c e k : ℕ) → zoneEntryAt (c + k) ≤ length h → e ≤ n → zonesFine h n c e k ≡ true → Found n c e k (zonesFrom h c k)
+    unfolding zonesFine zonesFrom zoneAt zoneEntries spots blocks manyIn
     zones-found c e zero b en t =
         let u = both (leb e n) (blank (part h (cellAt e) (8 * (n - e)))) t in
-        record { classes = refl; laid = en; reads = none; clean = blank-part h (cellAt e) (8 * (n - e)) (omega arith) (u .1); written = sym (part-none h (entryAt c)); many = refl }
+        record { classes = refl; laid = en; reads = none; clean = blank-part h (cellAt e) (8 * (n - e)) (omega arith) (u .1); written = sym (part-none h (zoneEntryAt c)); many = refl }
     zones-found c e (suc k) b en t =
         let u = both (zoneFine h n c e) (zonesFine h n (suc c) (endAt h c e) k) t in
         zone-found c e k (firstAt h c) (manyAt h c) (zonesFrom h (suc c) k) (omega arith) refl refl en (u .0)
@@ -259,7 +259,7 @@ module _ (h : List ℕ) where
   unfolding tagsFine entriesAt decode blockAt
   tags-found low i zero t = record { high = none; rising = single; led = none }
   tags-found low i (suc n) t =
-      let p : ℕ = placeAt h i in
+      let p : ℕ = entryCell h i in
       let d : Entry = record { tag = tagAt h i; cell = p } in
       let t1 = both (leb low (tagAt h i)) _ t in
       let t2 = both (leads h 0 30 p) _ (t1 .1) in
@@ -278,7 +278,7 @@ module _ (h : List ℕ) where
       higher : {ds : List Entry} → low ≤ tagAt h i → All (λ (d : Entry). tagAt h i + 1 ≤ d .tag) ds → All (λ (d : Entry). low ≤ d .tag) ds
       higher lo a = all-map (λ d b. omega arith) a
 
-      above : {ds : List Entry} → All (λ (d : Entry). tagAt h i + 1 ≤ d .tag) ds → All (Below (record { tag = tagAt h i; cell = placeAt h i })) ds
+      above : {ds : List Entry} → All (λ (d : Entry). tagAt h i + 1 ≤ d .tag) ds → All (Below (record { tag = tagAt h i; cell = entryCell h i })) ds
       above a = all-map (λ d b. omega arith) a
 
 -- ---- bytes that hold the blocks where they lie, and zeros between, are those of the layout
@@ -314,7 +314,7 @@ module _ (a b : List ℕ) where
         (row-same c f g (x ∷ xs) refl (all-left (ReadsAt a) r t h) (all-left (ReadsAt b) r t k)
         (zones-same (suc c) g zs (l .1) (all-right (ReadsAt a) r t h) (all-right (ReadsAt b) r t k) (p .1) (q .1)))
 
-home-of : (R : ℕ) (zs : List Zone) (h : List ℕ) → part h 0 2 ≡ bytes16 (length (blocks zs)) → part h 2 120 ≡ entries zs → part h 122 6 ≡ replicate 6 0
+home-of : (R : ℕ) (zs : List Zone) (h : List ℕ) → part h 0 2 ≡ bytes16 (length (blocks zs)) → part h 2 120 ≡ zoneEntries zs → part h 122 6 ≡ replicate 6 0
     → part h 128 1536 ≡ padded (dictionary zs) → drop 1664 h ≡ area (8 * R) zs → h ≡ encode R zs
 unfolding encode
 home-of R zs h a b c d e =

@@ -21,7 +21,7 @@ use Rattle.home.specs.CapacitiesLaws.{cells-pos, cells-most}
 use Rattle.home.specs.Zones.{Block, Zone, empty, from, blocks}
 use Rattle.home.specs.Perm.{In, Pairs, after}
 use Rattle.home.specs.Layout.{Sits, Laid, Fit, Valid}
-use Rattle.home.specs.Bytes.{blockBytes, Spot, row, spots, area, entries, Entry, entryOf, dictionary, entriesBytes, padded, encode, cellAt, tagAt, placeAt, endAt}
+use Rattle.home.specs.Bytes.{blockBytes, Spot, row, spots, area, zoneEntries, Entry, entryOf, dictionary, entriesBytes, padded, encode, cellAt, tagAt, entryCell, endAt}
 use Rattle.home.specs.Sound.{pagesOf, sized, Sound}
 use Rattle.sound.specs.Checks.{blockFine, blocksFine, zoneFine, zonesFine, manyIn, leads, tagsFine, checked, starts}
 use Rattle.home.specs.PermLaws.{all-left, all-right, in-map, in-all, all-in, pin}
@@ -150,7 +150,7 @@ tags-pass h low i [] rest e p b l = refl
 tags-pass h low i (d ∷ ds) rest e (more p ps) (after b bs) (more l ls) =
     let at : ℕ = 128 + 6 * i in
     let qt : tagAt h i ≡ d .tag = entry-tag h at d ds rest e (p .small .tag) in
-    let qc : placeAt h i ≡ d .cell = entry-cell h at d ds rest e (p .small .cell) in
+    let qc : entryCell h i ≡ d .cell = entry-cell h at d ds rest e (p .small .cell) in
     let next : 128 + 6 * suc i ≡ at + 6 = omega arith in
     rw (qt, qc)
     (yes (leb low (d .tag)) _ (le-leb low (d .tag) l)
@@ -181,7 +181,7 @@ module _ (R : ℕ) (zs : List Zone) (v : Valid (8 * R) zs) (small : R ≤ 1024) 
   home-zeros : part home 122 6 ≡ replicate 6 0
   unfolding encode bytes16
   home-zeros =
-      let p : List ℕ = bytes16 (length (blocks zs)) ++ entries zs in
+      let p : List ℕ = bytes16 (length (blocks zs)) ++ zoneEntries zs in
       part-join 122 6 p (replicate 6 0) (padded (dictionary zs) ++ area (8 * R) zs) (simp length-entries (omega (arith, v .classes))) refl
 
   home-rest : part home (128 + 6 * length (dictionary zs)) (1536 - 6 * length (dictionary zs)) ≡ replicate (1536 - 6 * length (dictionary zs)) 0

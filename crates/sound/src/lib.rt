@@ -1,8 +1,10 @@
 // The test whether bytes are a sound home, in one pass over them.
+use home::AREA;
 use home::classes::capacity;
 use home::classes::cells;
 use home::classes::class_in;
 use home::classes::class_table;
+use home::classes::under;
 use home::lookup::zone_count;
 use home::lookup::zone_end;
 use home::lookup::zone_first;
@@ -36,23 +38,12 @@ fn rising(home: &[u8], at: usize, n: usize) -> bool
     records::rising(&home[at..end])
 }
 
-// What the class below c has room for.
-fn under(c: usize) -> usize
-    requires { ⌜ c < 30 ⌝ }
-    ensures { λ r. ⌜ r ≡ underOf c ⌝ }
-{
-    if c == 0 {
-        return 0;
-    }
-    capacity(c - 1)
-}
-
 // A block at cell p in zone c, whose blocks have more than `low` records, and at most `room`.
 fn block_fine(home: &[u8], c: usize, low: usize, room: usize, p: usize) -> bool
     requires { ⌜ (c < 30) × (low ≡ underOf c) × (room ≡ capacityOf c) × (cellAt p + 8 * cellsOf c ≤ length (now home)) ⌝ }
     ensures { λ r. ⌜ r ≡ blockFine (now (home .entry)) c p ⌝ }
 {
-    let at = 1664 + 8 * p;
+    let at = AREA + 8 * p;
     let n = wire::get16(home, at + 4);
     if n <= low {
         return false;
@@ -112,7 +103,7 @@ fn zone_fine(home: &[u8], area: usize, c: usize, e: usize) -> bool
     if !lies(first, many, size, e, area) {
         return false;
     }
-    if !zeros(home, 1664 + 8 * e, 8 * (first - e)) {
+    if !zeros(home, AREA + 8 * e, 8 * (first - e)) {
         return false;
     }
     blocks_fine(home, c, first, many)
@@ -134,7 +125,7 @@ fn zones_fine(home: &[u8], area: usize, n: usize) -> bool
         e = zone_end(home, c, e);
         c += 1;
     }
-    zeros(home, 1664 + 8 * e, 8 * (area - e)) & (many == n)
+    zeros(home, AREA + 8 * e, 8 * (area - e)) & (many == n)
 }
 
 // Whether p is a block's first cell. The block there gives its class, so that one zone is looked at.
@@ -145,7 +136,7 @@ fn leads_at(home: &[u8], classes: &[u8], area: usize, p: usize) -> bool
     if area <= p {
         return false;
     }
-    let n = wire::get16(home, 1664 + 8 * p + 4);
+    let n = wire::get16(home, AREA + 8 * p + 4);
     if 990 <= n {
         return false;
     }
@@ -174,7 +165,7 @@ fn entry_fine(home: &[u8], classes: &[u8], area: usize, low: u64, tag: u32, i: u
     if !leads_at(home, classes, area, p) {
         return false;
     }
-    wire::get32(home, 1664 + 8 * p) == tag
+    wire::get32(home, AREA + 8 * p) == tag
 }
 
 // The dictionary's n entries.

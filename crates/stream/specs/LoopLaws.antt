@@ -10,7 +10,7 @@ use lib.Seq.{take-all, length-take-le, take-append-add, take-append-seam, take-l
 use Rattle.wire.specs.Bytes.{over}
 use Rattle.wire.specs.BytesLaws.{over-is, over-nil, over-append, over-part}
 use Rattle.parse.specs.Grammar.{parsed}
-use Rattle.parse.specs.Commas.{before}
+use Rattle.text.specs.Text.{before}
 use Rattle.lines.specs.Answer.{lineText, lineImage, lineSpace}
 use Rattle.stream.specs.declared.Fed.{Fed}
 use Rattle.stream.specs.Stream.{Open, state, clip, after, said}

@@ -4,7 +4,8 @@ use Prim.Native.Nat.{ℕ}
 use lib.Dec.{eqb}
 use lib.ListN.{length, take}
 use Rattle.wire.specs.Bytes.{pick}
-use Rattle.parse.specs.Grammar.{onto, parsed}
+use Rattle.text.specs.Text.{onto}
+use Rattle.parse.specs.Grammar.{parsed}
 use Rattle.lines.specs.Answer.{lineText, lineImage, lineSpace}
 
 -- ---- a whole input

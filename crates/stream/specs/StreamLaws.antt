@@ -10,7 +10,7 @@ use lib.Seq.{take-all, length-take-le}
 use borrow.Author.Tests.{lt-leb}
 use Rattle.wire.specs.Cases.{by-test, by-lt}
 use Rattle.parse.specs.Grammar.{parsed}
-use Rattle.parse.specs.Commas.{before}
+use Rattle.text.specs.Text.{before}
 use Rattle.lines.specs.Answer.{lineText, lineImage, lineSpace}
 use Rattle.stream.specs.Stream.{Open, state, clip, next, reply, after, said}
 

@@ -8,7 +8,8 @@ use lib.ListN.{length}
 use borrow.Author.Tests.{ne-eqb}
 use Rattle.wire.specs.Cases.{by-test}
 use Rattle.parse.specs.declared.Parsed.{Parsed}
-use Rattle.parse.specs.Grammar.{onto, parsed}
+use Rattle.text.specs.Text.{onto}
+use Rattle.parse.specs.Grammar.{parsed}
 use Rattle.lines.specs.Answer.{lineText, lineImage, lineSpace}
 use Rattle.stream.specs.Stream.{linesOf, answers, answered, Open, state, clip, after, said, ending, ended}
 use Rattle.stream.specs.StreamLaws.{parsed-clip, after-append, said-append, next-kept, next-none, closed, next-closed, next-reply}

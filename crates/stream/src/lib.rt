@@ -1,12 +1,14 @@
 // Input in pieces, split into lines, each answered.
 use lines::answer::answer_line;
-use parse::find;
+use print::LONGEST;
+use text::find;
 ghost use mathlib.Core.Path.{_≡_};
 ghost use mathlib.Core.List.{_++_};
 ghost use Prim.Native.Nat.{_+_, _≤_, _<_};
 ghost use lib.ListN.{length, take};
 ghost use Rattle.wire.specs.Bytes.{over};
 ghost use Rattle.parse.specs.Grammar.{parsed};
+ghost use Rattle.print.specs.Print.{longest};
 ghost use Rattle.lines.specs.Answer.{lineText, lineImage, lineSpace};
 ghost use Rattle.stream.specs.Stream.{state, clip};
 ghost use Rattle.stream.specs.Feeds.{Feeds};
@@ -41,8 +43,8 @@ fn answer_kept(
     rest: &[u8],
     out: &mut [u8],
 ) -> usize
-    requires { ⌜ (held ≤ 81) × (81 ≤ length (now kept)) × (24745 ≤ length (now out)) ⌝ }
-    ensures { λ n. ⌜ (now (out .exit) ≡ over (now (out .entry)) 0 (lineText (parsed (take held (now (kept .entry)) ++ now (rest .entry))) (now (image .entry)) (now (space .entry)))) × (n ≡ length (lineText (parsed (take held (now (kept .entry)) ++ now (rest .entry))) (now (image .entry)) (now (space .entry)))) × (n ≤ 24745) ⌝ }
+    requires { ⌜ (held ≤ 81) × (81 ≤ length (now kept)) × (longest ≤ length (now out)) ⌝ }
+    ensures { λ n. ⌜ (now (out .exit) ≡ over (now (out .entry)) 0 (lineText (parsed (take held (now (kept .entry)) ++ now (rest .entry))) (now (image .entry)) (now (space .entry)))) × (n ≡ length (lineText (parsed (take held (now (kept .entry)) ++ now (rest .entry))) (now (image .entry)) (now (space .entry)))) × (n ≤ longest) ⌝ }
     ensures { λ _. ⌜ (now (image .exit) ≡ lineImage (parsed (take held (now (kept .entry)) ++ now (rest .entry))) (now (image .entry)) (now (space .entry))) × (now (space .exit) ≡ lineSpace (parsed (take held (now (kept .entry)) ++ now (rest .entry))) (now (image .entry)) (now (space .entry))) ⌝ }
 {
     if held == 0 {
@@ -61,9 +63,9 @@ fn step(
     piece: &[u8],
     out: &mut [u8],
 ) -> Fed
-    requires { ⌜ (held ≤ 81) × (81 ≤ length (now kept)) × (24745 ≤ length (now out)) ⌝ }
+    requires { ⌜ (held ≤ 81) × (81 ≤ length (now kept)) × (longest ≤ length (now out)) ⌝ }
     ensures { λ r. ⌜ Feeds (state (take held (now (kept .entry))) (now (image .entry)) (now (space .entry))) (now (piece .entry)) (now (out .entry)) r (now (kept .exit)) (now (image .exit)) (now (space .exit)) (now (out .exit)) ⌝ }
-    ensures { λ r. ⌜ (r .held ≤ 81) × (r .printed ≤ 24745) × (0 < length (now (piece .entry)) → 0 < r .used) ⌝ }
+    ensures { λ r. ⌜ (r .held ≤ 81) × (r .printed ≤ longest) × (0 < length (now (piece .entry)) → 0 < r .used) ⌝ }
 {
     let n = piece.len();
     let end = find(piece, 0, b'\n');
@@ -94,7 +96,7 @@ fn feed_lines(
 ) -> Fed
     requires { ⌜ (held ≤ 81) × (81 ≤ length (now kept)) ⌝ }
     ensures { λ r. ⌜ Feeds (state (take held (now (kept .entry))) (now (image .entry)) (now (space .entry))) (now (piece .entry)) (now (out .entry)) r (now (kept .exit)) (now (image .exit)) (now (space .exit)) (now (out .exit)) ⌝ }
-    ensures { λ r. ⌜ (r .held ≤ 81) × (r .used < length (now (piece .entry)) → length (now (out .entry)) < r .printed + 24745) ⌝ }
+    ensures { λ r. ⌜ (r .held ≤ 81) × (r .used < length (now (piece .entry)) → length (now (out .entry)) < r .printed + longest) ⌝ }
 {
     let n = piece.len();
     let room = out.len();
@@ -102,7 +104,7 @@ fn feed_lines(
     let mut holds = held;
     let mut at = 0;
     while used < n {
-        if room - at < 24745 {
+        if room - at < LONGEST {
             break;
         }
         let f = step(
@@ -136,7 +138,7 @@ pub fn feed(
     out: &mut [u8],
 ) -> Fed
     ensures { λ r. ⌜ Feeds (state (take held (now (kept .entry))) (now (image .entry)) (now (space .entry))) (now (piece .entry)) (now (out .entry)) r (now (kept .exit)) (now (image .exit)) (now (space .exit)) (now (out .exit)) ⌝ }
-    ensures { λ r. ⌜ ((held ≤ 81) × (81 ≤ length (now (kept .entry))) → (r .held ≤ 81) × (r .used < length (now (piece .entry)) → length (now (out .entry)) < r .printed + 24745)) ⌝ }
+    ensures { λ r. ⌜ ((held ≤ 81) × (81 ≤ length (now (kept .entry))) → (r .held ≤ 81) × (r .used < length (now (piece .entry)) → length (now (out .entry)) < r .printed + longest)) ⌝ }
 {
     let none = Fed {
         used: 0,

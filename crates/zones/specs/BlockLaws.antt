@@ -14,7 +14,7 @@ use Rattle.home.specs.Perm.{Perm, In, Pairs, after}
 use Rattle.home.specs.PermLaws.{prefl, psym, pall, pin, all-in, in-map, map-in}
 use Rattle.home.specs.Layout.{Sits}
 use Rattle.home.specs.FindLaws.{by-tag, has-here, has-skip}
-use Rattle.home.specs.Bytes.{Spot, row, spots, Entry, entryOf, dictionary, entries, area, blockBytes, cellAt, countAt, tagAt, placeAt, entriesAt, encode, decode}
+use Rattle.home.specs.Bytes.{Spot, row, spots, Entry, entryOf, dictionary, zoneEntries, area, blockBytes, cellAt, countAt, tagAt, entryCell, entriesAt, encode, decode}
 use Rattle.home.specs.AreaLaws.{Good, spots-sit, spots-good}
 use Rattle.home.specs.HomeLaws.{ReadsAt, block-tag, block-count, block-starts}
 use Rattle.home.specs.DictionaryLaws.{Else, spots-blocks, dictionary-perm}
@@ -32,8 +32,8 @@ use Rattle.moves.specs.LooseLaws.{length-loose}
 use Rattle.moves.specs.CloseLaws.{reads-loose}
 use Rattle.moves.specs.Stored.{Loose}
 use Rattle.zones.specs.SoundLaws.{sound-small, sound-loose}
-use Rattle.zones.specs.Known.{Known}
-use Rattle.zones.specs.KnownLaws.{Located, located}
+use Rattle.zones.specs.Known.{Located, Known}
+use Rattle.zones.specs.KnownLaws.{located}
 
 -- ---- a block that lies in home's bytes
 
@@ -69,14 +69,14 @@ spots-of R small zs ls f pre b post hs c p is class cell =
 -- a tag's block, and the others
 module _ (R : ℕ) (h : List ℕ) (zs : List Zone) (t c p : ℕ) (k : Known R h zs t c p) where
   pub others-of : List Spot
-  others-of = spots 0 (k .lower) ++ ((row c (k .first) (k .before) ++ row c (p + cells c) (k .behind)) ++ spots (suc c) (k .higher))
+  others-of = spots 0 (k .found .lower) ++ ((row c (k .found .first) (k .found .before) ++ row c (p + cells c) (k .found .behind)) ++ spots (suc c) (k .found .higher))
 
-  pub known-spots : Perm (spots 0 zs) (spot c p (k .block) ∷ others-of)
+  pub known-spots : Perm (spots 0 zs) (spot c p (k .found .block) ∷ others-of)
   unfolding others-of
-  known-spots = spots-of R (k .pages) zs (k .lower) (k .first) (k .before) (k .block) (k .behind) (k .higher) c p (k .is) (k .class) (k .cell)
+  known-spots = spots-of R (k .pages) zs (k .found .lower) (k .found .first) (k .found .before) (k .found .block) (k .found .behind) (k .found .higher) c p (k .found .is) (k .class) (k .cell)
 
-  pub known-lying : Lying h c p (k .block)
-  known-lying = subst (λ (l : List ℕ). Lying l c p (k .block)) (sym (k .bytes)) (lying R (k .pages) zs (k .loose) (spot c p (k .block)) others-of known-spots)
+  pub known-lying : Lying h c p (k .found .block)
+  known-lying = subst (λ (l : List ℕ). Lying l c p (k .found .block)) (sym (k .bytes)) (lying R (k .pages) zs (k .loose) (spot c p (k .found .block)) others-of known-spots)
 
 -- ---- found by the dictionary
 
@@ -107,12 +107,12 @@ module _ (h : List ℕ) (s : sound h ≡ true) where
   entries-of =
       let v : Loose R zs = sound-loose h s in
       subst (λ (l : List ℕ). entriesAt l 0 (get16 l 0) ≡ dictionary zs) (sym (is ∙ encode-state R (sound-small h s) zs v))
-      (state-entries (entries zs) (area (8 * R) zs) (length-zones R (sound-small h s) zs v) (dictionary zs) (fine R (sound-small h s) zs v))
+      (state-entries (zoneEntries zs) (area (8 * R) zs) (length-zones R (sound-small h s) zs v) (dictionary zs) (fine R (sound-small h s) zs v))
 
   -- the block to which an entry leads is the first one with its tag
   module _ (t i : ℕ) (e : slotOf h t ≡ At i) where
     abbrev p : ℕ
-    p = placeAt h i
+    p = entryCell h i
 
     abbrev d : Entry
     d = record { tag = tagAt h i; cell = p }
@@ -141,23 +141,14 @@ module _ (h : List ℕ) (s : sound h ≡ true) where
           pages = sound-small h s;
           bytes = is;
           loose = sound-loose h s;
-          lower = k .lower;
-          first = k .first;
-          before = k .before;
-          block = k .block;
-          behind = k .behind;
-          higher = k .higher;
-          is = k .is;
+          found = k;
           class = refl;
           cell = ap (λ (x : Entry). x .cell) (sym same);
-          tag = k .tag;
-          none-lower = k .none-lower;
-          none-before = k .none-before;
         }
 
     pub slot-known : Known R h zs t (classOf (countAt h p)) p
     slot-known =
         let k : Located t zs = located t zs slot-has in
         let w : Known R h zs t (length (k .lower)) p = known-at k in
-        let l : Lying h (length (k .lower)) p (w .block) = known-lying R h zs t (length (k .lower)) p w in
+        let l : Lying h (length (k .lower)) p (w .found .block) = known-lying R h zs t (length (k .lower)) p w in
         subst (λ (c : ℕ). Known R h zs t c p) (sym (ap classOf (l .count) ∙ l .sits .class)) w

@@ -12,14 +12,14 @@ use Rattle.wire.specs.BytesLaws.{length-over, over-low, over-high, length-part,
 use Rattle.wire.specs.Cases.{by-within}
 use Rattle.home.specs.Capacities.{cells, classOf}
 use Rattle.home.specs.Cases.{Holds, holds-under, map-swap}
-use Rattle.home.specs.Bytes.{cellAt, entryAt, firstAt, manyAt, endAt}
+use Rattle.home.specs.Bytes.{cellAt, zoneEntryAt, firstAt, manyAt, endAt}
 use Rattle.home.specs.Lookup.{indexOf}
 use Rattle.moves.specs.Moves.{wordAt, counted, entered, zoned}
 use Rattle.seats.specs.Seat.{cellFor, firstWith, endFrom, raised, seated}
 use Rattle.seats.specs.UntouchedLaws.{Untouched, untouched-ordered}
 use Rattle.seats.specs.StackLaws.{raised-long}
 use Rattle.seats.specs.MaskLaws.{masked, mask-over, mask-count, mask-part, mask-index, mask-zoned, mask-first, mask-many, mask-end, mask-untouched, mask-stacked, mask-ends, mask-raised}
-use Rattle.zones.specs.Place.{blockOf, withBlock, placedFrom, From}
+use Rattle.zones.specs.Place.{wholeBlock, withBlock, placedFrom, From}
 
 -- ---- other bytes in the entries below c
 
@@ -42,10 +42,10 @@ module _ (low : List ℕ) (c : ℕ) (long : length low ≡ 4 * c) (under : c ≤
   mask-block : (h : List ℕ) (k p t : ℕ) (bs : List ℕ) → c ≤ k → withBlock (masked low h) k p t bs ≡ masked low (withBlock h k p t bs)
   unfolding withBlock
   mask-block h k p t bs g =
-      let b : List ℕ = over h (cellAt p) (blockOf k t bs) in
+      let b : List ℕ = over h (cellAt p) (wholeBlock k t bs) in
       let F : ℕ → ℕ → List ℕ → List ℕ = λ (f n : ℕ) (x : List ℕ). zoned (entered x t p) k (firstWith n f p) (n + 1) in
-      ap₂ (λ (f n : ℕ). F f n (over (masked low h) (cellAt p) (blockOf k t bs))) (mask-first low c long under h k g) (mask-many low c long under h k g)
-      ∙ ap (F (firstAt h k) (manyAt h k)) (mask-over low c long under h (cellAt p) (blockOf k t bs) (omega arith))
+      ap₂ (λ (f n : ℕ). F f n (over (masked low h) (cellAt p) (wholeBlock k t bs))) (mask-first low c long under h k g) (mask-many low c long under h k g)
+      ∙ ap (F (firstAt h k) (manyAt h k)) (mask-over low c long under h (cellAt p) (wholeBlock k t bs) (omega arith))
       ∙ ap (λ (x : List ℕ). zoned x k (firstWith (manyAt h k) (firstAt h k) p) (manyAt h k + 1)) (mask-entered b t p)
       ∙ mask-zoned low c long under (entered b t p) k (firstWith (manyAt h k) (firstAt h k) p) (manyAt h k + 1) g
 
@@ -133,8 +133,8 @@ length-entered h t p =
 length-block : (h : List ℕ) (k p t : ℕ) (bs : List ℕ) → length (withBlock h k p t bs) ≡ length h
 unfolding withBlock zoned
 length-block h k p t bs =
-    let b : List ℕ = over h (cellAt p) (blockOf k t bs) in
-    length-over (entered b t p) (entryAt k) (bytes16 (firstWith (manyAt h k) (firstAt h k) p) ++ bytes16 (manyAt h k + 1)) ∙ length-entered b t p ∙ length-over h (cellAt p) (blockOf k t bs)
+    let b : List ℕ = over h (cellAt p) (wholeBlock k t bs) in
+    length-over (entered b t p) (zoneEntryAt k) (bytes16 (firstWith (manyAt h k) (firstAt h k) p) ++ bytes16 (manyAt h k + 1)) ∙ length-entered b t p ∙ length-over h (cellAt p) (wholeBlock k t bs)
 
 placed-long : (h : List ℕ) (c e t : ℕ) (bs : List ℕ) → Holds (λ (x : List ℕ). length x ≡ length h) (placedFrom h c e t bs)
 unfolding placedFrom

@@ -18,7 +18,7 @@ use Rattle.seats.specs.Seat.{cellFor, endFrom, roomOf, Stacked, Seatable, seate
 use Rattle.seats.specs.UntouchedLaws.{Untouched, untouched-ordered, untouched-both, untouched-area}
 use Rattle.seats.specs.StackLaws.{stacked-on, raised-inside, raised-untouched}
 use Rattle.seats.specs.SeatCode.{Answers, clash}
-use Rattle.zones.specs.Place.{blockOf, RoomAt, withBlock, placedFrom, From}
+use Rattle.zones.specs.Place.{wholeBlock, RoomAt, withBlock, placedFrom, From}
 
 -- the list's class k, the end of the zones below it, and its zone's first cell and block count
 pub record Placing (h : List ℕ) (c e : ℕ) (bs : List ℕ) (k end f n : ℕ) : Type 0 where
@@ -95,9 +95,9 @@ module _ (h : List ℕ) (c e : ℕ) (bs : List ℕ) (k end f n : ℕ) (a : Placi
           by none u v w i = clash q u
           by (some x) u v w i =
               let j : q ≡ p = cc in
-              let b : List ℕ = over h' (cellAt q) (blockOf k t bs) in
+              let b : List ℕ = over h' (cellAt q) (wholeBlock k t bs) in
               let y : Untouched 0 h h' = subst (Untouched 0 h) (sym v) w in
-              let b' : Untouched 0 h b = untouched-both 0 0 h h' b (omega arith) y (untouched-area 0 h' q (blockOf k t bs) (omega arith)) in (
+              let b' : Untouched 0 h b = untouched-both 0 0 h h' b (omega arith) y (untouched-area 0 h' q (wholeBlock k t bs) (omega arith)) in (
                 record {
                   class = under .1;
                   long = omega (arith, a .from .ordered .long, y .long);

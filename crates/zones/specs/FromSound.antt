@@ -25,7 +25,7 @@ use Rattle.moves.specs.AtLaws.{at-zone, take-here, joined, long-next}
 use Rattle.seats.specs.Seat.{cellFor, endFrom, raised, seated, Stacked}
 use Rattle.seats.specs.LayoutLaws.{end-here, loose-next, end-passed, raised-layout, stored-ends, stacked-stored}
 use Rattle.zones.specs.SoundLaws.{sound-valid, valid-loose, sound-stored, sound-tags}
-use Rattle.zones.specs.Place.{blockOf, withBlock, blockIn, placedFrom, From, placedIn, Placeable}
+use Rattle.zones.specs.Place.{wholeBlock, withBlock, blockIn, placedFrom, From, placedIn, Placeable}
 use Rattle.zones.specs.PlaceLaws.{end-added, puts-at, Fitting, fitting-under, fitting-sits, fitting-fits, fitting-bytes}
 
 -- ---- the layout's placing, taken apart at the block's zone
@@ -47,7 +47,7 @@ place-at n c e k b (y ∷ ls) z hs q =
 -- a block of class k = length ls into the zones ls ++ z ∷ hs
 module _ (R : ℕ) (small : R ≤ 1024) (t : ℕ) (bs : List ℕ) (ls : List Zone) (z : Zone) (hs : List Zone) (v : Valid (8 * R) (ls ++ z ∷ hs)) (sits : Sits (length ls) (blockIn t bs))
     (new : Lacks t (blocks (ls ++ z ∷ hs))) (few : length (blocks (ls ++ z ∷ hs)) < 256) (fits : length bs + 8 ≤ 8 * cells (length ls))
-    (block : blockBytes (length ls) (blockIn t bs) ≡ blockOf (length ls) t bs) where
+    (block : blockBytes (length ls) (blockIn t bs) ≡ wholeBlock (length ls) t bs) where
   abbrev b : Block
   b = blockIn t bs
 
@@ -136,13 +136,13 @@ module _ (h : List ℕ) (t : ℕ) (bs : List ℕ) (l : Fitting h t bs (classOf (
 
   -- the block's cell is where the layout's zones up to its own end
   from-zone : (y : List Zone) (i : ℕ) → i < length y → encode N y ≡ h → Valid (8 * N) y → Sits i (blockIn t bs) → Lacks t (blocks y) → length (blocks y) < 256 → length bs + 8 ≤ 8 * cells i
-      → blockBytes i (blockIn t bs) ≡ blockOf i t bs → (e : ℕ) → e ≡ endAfter 0 0 (take i y)
+      → blockBytes i (blockIn t bs) ≡ wholeBlock i t bs → (e : ℕ) → e ≡ endAfter 0 0 (take i y)
       → Option·map (λ (x : List ℕ). withBlock x i (endAt h i e) t bs) (seated h i (firstAt h i) (manyAt h i) e) ≡ Option·map (encode N) (place cells (8 * N) 0 0 i (blockIn t bs) y)
   unfolding endAt cellFor
   from-zone y i g =
       at-zone y i g
       (λ (ys : List Zone) (j : ℕ). encode N ys ≡ h → Valid (8 * N) ys → Sits j (blockIn t bs) → Lacks t (blocks ys) → length (blocks ys) < 256 → length bs + 8 ≤ 8 * cells j
-      → blockBytes j (blockIn t bs) ≡ blockOf j t bs → (e : ℕ) → e ≡ endAfter 0 0 (take j ys)
+      → blockBytes j (blockIn t bs) ≡ wholeBlock j t bs → (e : ℕ) → e ≡ endAfter 0 0 (take j ys)
       → Option·map (λ (x : List ℕ). withBlock x j (endAt h j e) t bs) (raised (29 - j) h (j + 1) (endAt h j e + cells j)) ≡ Option·map (encode N) (place cells (8 * N) 0 0 j (blockIn t bs) ys))
       (λ ls z hs q v s k f w c e d.
       let a : endAt h (length ls) e ≡ endOf cells (length ls) (endAfter 0 0 ls) z =

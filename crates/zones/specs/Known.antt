@@ -13,12 +13,8 @@ use Rattle.moves.specs.Moves.{moved}
 use Rattle.moves.specs.Close.{zoneOf}
 use Rattle.moves.specs.Stored.{Loose}
 
--- the bytes of a layout zs that is valid but for its gaps, in which tag t has a block of class c at cell p
-pub record Known (R : ℕ) (h : List ℕ) (zs : List Zone) (t c p : ℕ) : Type 0 where
-  pub pages : R ≤ 1024
-  pub bytes : h ≡ encode R zs
-  pub loose : Loose R zs
-  -- the block, those before and behind it in its zone, that zone's first cell, and the lower and higher zones
+-- tag t's first block in a layout, those before and behind it in its zone, that zone's first cell, and the lower and higher zones
+pub record Located (t : ℕ) (zs : List Zone) : Type 0 where
   pub lower : List Zone
   pub first : ℕ
   pub before : List Block
@@ -26,12 +22,18 @@ pub record Known (R : ℕ) (h : List ℕ) (zs : List Zone) (t c p : ℕ) : Type 
   pub behind : List Block
   pub higher : List Zone
   pub is : zs ≡ lower ++ zone first (before ++ block ∷ behind) ∷ higher
-  pub class : length lower ≡ c
-  pub cell : first + length before * cells c ≡ p
   pub tag : block .tag ≡ t
-  -- it is the first one
   pub none-lower : hasTag t (blocks lower) ≡ false
   pub none-before : hasTag t before ≡ false
+
+-- the bytes of a layout zs that is valid but for its gaps, in which that block has class c and lies at cell p
+pub record Known (R : ℕ) (h : List ℕ) (zs : List Zone) (t c p : ℕ) : Type 0 where
+  pub pages : R ≤ 1024
+  pub bytes : h ≡ encode R zs
+  pub loose : Loose R zs
+  pub found : Located t zs
+  pub class : length (found .lower) ≡ c
+  pub cell : found .first + length (found .before) * cells c ≡ p
 
 -- the first cell of a zone from f on with so many blocks: "an empty zone has first cell 0"
 unfoldable pub firstIf : ℕ → ℕ → ℕ

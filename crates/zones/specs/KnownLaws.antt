@@ -14,7 +14,7 @@ use Rattle.home.specs.Zones.{Block, Zone, empty, from, zone, blocks, hasTag, fi
 use Rattle.home.specs.FindLaws.{Lacks, by-tag, has-here, has-skip, has-append, lacks-has, find-here, find-later}
 use Rattle.moves.specs.Stored.{endAfter}
 use Rattle.moves.specs.LooseLaws.{blocks-append, zone-blocks}
-use Rattle.zones.specs.Known.{lacking}
+use Rattle.zones.specs.Known.{Located, lacking}
 
 -- ---- found
 
@@ -37,18 +37,6 @@ cut t (x ∷ xs) h =
     record { before = x ∷ k .before; block = k .block; behind = k .behind; is = ap (λ (l : List Block). x ∷ l) (k .is); tag = k .tag; none = has-skip t x (k .before) n ∙ k .none })
 
 -- in a layout
-pub record Located (t : ℕ) (zs : List Zone) : Type 0 where
-  pub lower : List Zone
-  pub first : ℕ
-  pub before : List Block
-  pub block : Block
-  pub behind : List Block
-  pub higher : List Zone
-  pub is : zs ≡ lower ++ zone first (before ++ block ∷ behind) ∷ higher
-  pub tag : block .tag ≡ t
-  pub none-lower : hasTag t (blocks lower) ≡ false
-  pub none-before : hasTag t before ≡ false
-
 pub located : (t : ℕ) (zs : List Zone) → hasTag t (blocks zs) ≡ true → Located t zs
 unfolding blocks hasTag zone
 located t [] h = never h

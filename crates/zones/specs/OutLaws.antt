@@ -220,36 +220,36 @@ stored R h zs small e v =
 
 module _ (R : ℕ) (h : List ℕ) (zs : List Zone) (t c p : ℕ) (k : Known R h zs t c p) where
   pub known-class : c < 30
-  known-class = omega (arith, k .class, ap length (k .is), length-append (k .lower) (zone (k .first) (k .before ++ k .block ∷ k .behind) ∷ k .higher), k .loose .classes)
+  known-class = omega (arith, k .class, ap length (k .found .is), length-append (k .found .lower) (zone (k .found .first) (k .found .before ++ k .found .block ∷ k .found .behind) ∷ k .found .higher), k .loose .classes)
 
   pub known-long : length h ≡ 1664 + 64 * R
   known-long = ap length (k .bytes) ∙ length-loose R (k .pages) zs (k .loose)
 
-  pub known-zone : (firstAt h c ≡ k .first) × (manyAt h c ≡ suc (length (k .before) + length (k .behind)))
-  known-zone = zone-there R (k .pages) zs (k .lower) (k .first) (k .before) (k .block) (k .behind) (k .higher) h t c p (k .is) (k .bytes) (k .class) (k .cell) (k .tag) (k .none-before) (k .loose)
+  pub known-zone : (firstAt h c ≡ k .found .first) × (manyAt h c ≡ suc (length (k .found .before) + length (k .found .behind)))
+  known-zone = zone-there R (k .pages) zs (k .found .lower) (k .found .first) (k .found .before) (k .found .block) (k .found .behind) (k .found .higher) h t c p (k .found .is) (k .bytes) (k .class) (k .cell) (k .found .tag) (k .found .none-before) (k .loose)
       (omega (arith, known-class, k .class))
 
   pub known-out : (f n : ℕ) → f ≡ firstAt h c → n ≡ manyAt h c - 1 → Out R h zs t c p f n
   known-out f n a e =
       let z = known-zone in
-      let b : f ≡ k .first = a ∙ z .0 in
+      let b : f ≡ k .found .first = a ∙ z .0 in
       subst (λ (g : ℕ). Out R h zs t c p g n) (sym b)
-      (out-any R (k .pages) zs (k .lower) (k .first) (k .before) (k .block) (k .behind) (k .higher) h t c p (k .is) (k .bytes) (k .class) (k .cell) (k .tag) (k .none-before) (k .loose)
+      (out-any R (k .pages) zs (k .found .lower) (k .found .first) (k .found .before) (k .found .block) (k .found .behind) (k .found .higher) h t c p (k .found .is) (k .bytes) (k .class) (k .cell) (k .found .tag) (k .found .none-before) (k .loose)
       n (omega (arith, z .1))
-      (subst (λ (l : List ℕ). Movable l p) (sym (k .bytes)) (movable R (k .pages) zs (k .loose) (spot c p (k .block)) (others-of R h zs t c p k) (known-spots R h zs t c p k)))
+      (subst (λ (l : List ℕ). Movable l p) (sym (k .bytes)) (movable R (k .pages) zs (k .loose) (spot c p (k .found .block)) (others-of R h zs t c p k) (known-spots R h zs t c p k)))
       (known-lying R h zs t c p k))
 
   -- ---- h' is home without the block
 
   abbrev left : List Zone
-  left = now R (k .lower) (k .first) (k .before) (k .block) (k .behind) (k .higher)
+  left = now R (k .found .lower) (k .found .first) (k .found .before) (k .found .block) (k .found .behind) (k .found .higher)
 
   module _ (h' : List ℕ) (q : h' ≡ outBytes R zs t c) where
     left-bytes : h' ≡ encode R left
-    left-bytes = q ∙ out-zone R (k .pages) zs (k .lower) (k .first) (k .before) (k .block) (k .behind) (k .higher) h t c p (k .is) (k .bytes) (k .class) (k .cell) (k .tag) (k .none-before) (k .loose)
+    left-bytes = q ∙ out-zone R (k .pages) zs (k .found .lower) (k .found .first) (k .found .before) (k .found .block) (k .found .behind) (k .found .higher) h t c p (k .found .is) (k .bytes) (k .class) (k .cell) (k .found .tag) (k .found .none-before) (k .loose)
 
     left-loose : Loose R left
-    left-loose = loose-out R (k .lower) (k .first) (k .before) (k .block) (k .behind) (k .higher) (subst (Loose R) (k .is) (k .loose))
+    left-loose = loose-out R (k .found .lower) (k .found .first) (k .found .before) (k .found .block) (k .found .behind) (k .found .higher) (subst (Loose R) (k .found .is) (k .loose))
 
     pub out-stored : Stored h'
     out-stored = stored R h' left (k .pages) left-bytes left-loose
@@ -270,5 +270,5 @@ module _ (R : ℕ) (h : List ℕ) (zs : List Zone) (t c p : ℕ) (k : Known R h 
       out-taken =
           let z : decode h' ≡ left = ap decode left-bytes ∙ decode-loose R (k .pages) left left-loose in
           ap₂ (λ (n : ℕ) (l : List Zone). closedBytes n l (c + 1) e) (ap pagesOf left-bytes ∙ pages-loose R (k .pages) left left-loose) z
-          ∙ out-closed R (k .pages) zs (k .lower) (k .first) (k .before) (k .block) (k .behind) (k .higher) h t c p (k .is) (k .bytes) (k .class) (k .cell) (k .tag) (k .none-before) (k .loose)
-          e (k .none-lower) (closes-at ∙ ap (λ (l : List Zone). endAfter 0 0 (take (c + 1) l)) z)
+          ∙ out-closed R (k .pages) zs (k .found .lower) (k .found .first) (k .found .before) (k .found .block) (k .found .behind) (k .found .higher) h t c p (k .found .is) (k .bytes) (k .class) (k .cell) (k .found .tag) (k .found .none-before) (k .loose)
+          e (k .found .none-lower) (closes-at ∙ ap (λ (l : List Zone). endAfter 0 0 (take (c + 1) l)) z)

@@ -16,9 +16,9 @@ use Rattle.moves.specs.Moves.{zoned, entered}
 use Rattle.seats.specs.Seat.{firstWith, endFrom, raised, seated, Stacked}
 
 -- a whole block of class c: tag t and the bytes bs of its list
-unfoldable pub blockOf : ℕ → ℕ → List ℕ → List ℕ
+unfoldable pub wholeBlock : ℕ → ℕ → List ℕ → List ℕ
 unfolding bytes16 bytes32 cells
-blockOf c t bs = bytes32 t ++ (bytes16 (length bs / 8) ++ (0 ∷ 0 ∷ (bs ++ replicate (8 * cells c - 8 - length bs) 0)))
+wholeBlock c t bs = bytes32 t ++ (bytes16 (length bs / 8) ++ (0 ∷ 0 ∷ (bs ++ replicate (8 * cells c - 8 - length bs) 0)))
 
 -- room at cell p for a block of class c with tag t and the bytes bs of its list
 pub record RoomAt (h : List ℕ) (c p t : ℕ) (bs : List ℕ) : Type 0 where
@@ -26,12 +26,12 @@ pub record RoomAt (h : List ℕ) (c p t : ℕ) (bs : List ℕ) : Type 0 where
   pub long : 1664 ≤ length h
   pub inside : cellAt p + 8 * cells c ≤ length h
   pub fits : length bs + 8 ≤ 8 * cells c
-  pub ordered : Ordered (over h (cellAt p) (blockOf c t bs))
-  pub few : get16 (over h (cellAt p) (blockOf c t bs)) 0 < 256
+  pub ordered : Ordered (over h (cellAt p) (wholeBlock c t bs))
+  pub few : get16 (over h (cellAt p) (wholeBlock c t bs)) 0 < 256
 
 -- home with that block, its tag's entry, and its zone's
 unfoldable pub withBlock : List ℕ → ℕ → ℕ → ℕ → List ℕ → List ℕ
-withBlock h c p t bs = zoned (entered (over h (cellAt p) (blockOf c t bs)) t p) c (firstWith (manyAt h c) (firstAt h c) p) (manyAt h c + 1)
+withBlock h c p t bs = zoned (entered (over h (cellAt p) (wholeBlock c t bs)) t p) c (firstWith (manyAt h c) (firstAt h c) p) (manyAt h c + 1)
 
 -- "placing from a class up, given that end": zones c and up of home's bytes, where the lower ones end at e, with a block of that class or a higher one
 unfoldable pub placedFrom : List ℕ → ℕ → ℕ → ℕ → List ℕ → Option (List ℕ)

@@ -21,7 +21,7 @@ use Rattle.home.specs.Lookup.{Ordered}
 use Rattle.home.specs.AreaLaws.{fit-le}
 use Rattle.home.specs.HomeLaws.{length-dictionary}
 use Rattle.home.specs.DictionaryLaws.{dictionary-rising}
-use Rattle.home.specs.Bytes.{Entry, entries, dictionary, area, encode, cellAt, firstAt, manyAt, blockBytes}
+use Rattle.home.specs.Bytes.{Entry, zoneEntries, dictionary, area, encode, cellAt, firstAt, manyAt, blockBytes}
 use Rattle.home.specs.BytesLaws.{records-fit}
 use Rattle.moves.specs.Moves.{zoned, entered}
 use Rattle.moves.specs.StateLaws.{state, state-tags, state-ordered, state-written}
@@ -31,13 +31,13 @@ use Rattle.moves.specs.Stored.{endAfter, Loose}
 use Rattle.moves.specs.LooseLaws.{zone-at, length-loose, fit-above}
 use Rattle.moves.specs.AtLaws.{zone-here}
 use Rattle.seats.specs.Seat.{firstWith}
-use Rattle.zones.specs.Place.{blockOf, RoomAt, withBlock, blockIn, Placeable}
+use Rattle.zones.specs.Place.{wholeBlock, RoomAt, withBlock, blockIn, Placeable}
 
 -- ---- a whole block
 
 pub block-written : (h : List ℕ) (at c t k : ℕ) (bs : List ℕ) → k ≡ cells c
-    → over (over (over (over (over h at (bytes32 t)) (at + 4) (bytes16 (length bs / 8))) (at + 6) (bytes16 0)) (at + 8) bs) (at + 8 + length bs) (replicate (8 * k - 8 - length bs) 0) ≡ over h at (blockOf c t bs)
-unfolding blockOf bytes16 bytes32
+    → over (over (over (over (over h at (bytes32 t)) (at + 4) (bytes16 (length bs / 8))) (at + 6) (bytes16 0)) (at + 8) bs) (at + 8 + length bs) (replicate (8 * k - 8 - length bs) 0) ≡ over h at (wholeBlock c t bs)
+unfolding wholeBlock bytes16 bytes32
 block-written h at c t k bs e =
     let n : ℕ = length bs / 8 in
     let z : List ℕ = replicate (8 * k - 8 - length bs) 0 in
@@ -47,8 +47,8 @@ block-written h at c t k bs e =
     ∙ over-next h at (at + 8 + length bs) (((bytes32 t ++ bytes16 n) ++ bytes16 0) ++ bs) z (omega arith)
     ∙ ap (λ (j : ℕ). over h at (bytes32 t ++ (bytes16 n ++ (0 ∷ 0 ∷ (bs ++ replicate (8 * j - 8 - length bs) 0))))) e
 
-pub block-is : (c t : ℕ) (rs : List Record) → length rs ≤ capacity c → blockOf c t (recordBytes rs) ≡ blockBytes c (record { tag = t; list = rs })
-unfolding blockOf blockBytes cells
+pub block-is : (c t : ℕ) (rs : List Record) → length rs ≤ capacity c → wholeBlock c t (recordBytes rs) ≡ blockBytes c (record { tag = t; list = rs })
+unfolding wholeBlock blockBytes cells
 block-is c t rs g =
     let a : length (recordBytes rs) / 8 ≡ length rs = omega (arith, length-encode rs) in
     let b : 8 * cells c - 8 - length (recordBytes rs) ≡ 8 * (capacity c - length rs) = omega (arith, length-encode rs) in
@@ -77,7 +77,7 @@ pub record Puts (h h' : List ℕ) (c p t : ℕ) (bs : List ℕ) : Type 0 where
   pub bytes : withBlock h c p t bs ≡ h'
 
 -- the block's bytes, its tag's entry, and its zone's, one after the other
-pub put-done : (h h₁ h₂ h₃ : List ℕ) (c p t n f first : ℕ) (bs : List ℕ) → n ≡ manyAt h c → f ≡ firstAt h c → h₁ ≡ over h (cellAt p) (blockOf c t bs) → h₂ ≡ entered h₁ t p → first ≡ firstWith n f p
+pub put-done : (h h₁ h₂ h₃ : List ℕ) (c p t n f first : ℕ) (bs : List ℕ) → n ≡ manyAt h c → f ≡ firstAt h c → h₁ ≡ over h (cellAt p) (wholeBlock c t bs) → h₂ ≡ entered h₁ t p → first ≡ firstWith n f p
     → h₃ ≡ zoned h₂ c first (n + 1) → h₃ ≡ withBlock h c p t bs
 unfolding withBlock
 put-done h h₁ h₂ h₃ c p t n f first bs en ef e₁ e₂ e e₃ = rw (e₃, e₂, e₁, e, en, ef)
@@ -85,7 +85,7 @@ put-done h h₁ h₂ h₃ c p t n f first bs en ef e₁ e₂ e e₃ = rw (e₃, 
 -- the block's bytes are written, not yet its entries
 module _ (R : ℕ) (small : R ≤ 1024) (zs : List Zone) (v : Loose R zs) (p : ℕ) (bs : List ℕ) where
   abbrev es : List ℕ
-  es = entries zs
+  es = zoneEntries zs
 
   abbrev ds : List Entry
   ds = dictionary zs
@@ -105,7 +105,7 @@ module _ (R : ℕ) (small : R ≤ 1024) (zs : List Zone) (v : Loose R zs) (p : �
 -- a block behind those of its zone, between layouts that are valid but for their gaps
 pub puts-at : (R : ℕ) → R ≤ 1024 → (t : ℕ) (bs : List ℕ) (ls : List Zone) (z : Zone) (hs : List Zone)
     → Loose R (ls ++ z ∷ hs) → Loose R (ls ++ added (endAfter 0 0 ls) (blockIn t bs) z ∷ hs) → length (blocks (ls ++ z ∷ hs)) < 256
-    → length bs + 8 ≤ 8 * cells (length ls) → blockBytes (length ls) (blockIn t bs) ≡ blockOf (length ls) t bs
+    → length bs + 8 ≤ 8 * cells (length ls) → blockBytes (length ls) (blockIn t bs) ≡ wholeBlock (length ls) t bs
     → Puts (encode R (ls ++ z ∷ hs)) (encode R (ls ++ added (endAfter 0 0 ls) (blockIn t bs) z ∷ hs)) (length ls) (endOf cells (length ls) (endAfter 0 0 ls) z) t bs
 unfolding withBlock
 puts-at R small t bs ls z hs v v' few fits block =
@@ -125,8 +125,8 @@ puts-at R small t bs ls z hs v v' few fits block =
         long = omega (arith, long);
         inside = omega (arith, long, high);
         fits = fits;
-        ordered = written-ordered R small (ls ++ z ∷ hs) v p (blockOf c t bs);
-        few = omega (arith, written-tags R small (ls ++ z ∷ hs) v p (blockOf c t bs), few);
+        ordered = written-ordered R small (ls ++ z ∷ hs) v p (wholeBlock c t bs);
+        few = omega (arith, written-tags R small (ls ++ z ∷ hs) v p (wholeBlock c t bs), few);
       };
       bytes = rw (read .0, read .1, ← block, add-one)
           (ap (λ (x : ℕ). zoned (entered (over h (cellAt p) (blockBytes c b)) t p) c x (suc (manyOf z))) (first-added c e b z) ∙ sym (home-placed R small ls e b z hs v v'));
@@ -167,8 +167,8 @@ module _ (h : List ℕ) (t : ℕ) (bs : List ℕ) (c : ℕ) (l : Fitting h t bs 
   pub fitting-fits : length bs + 8 ≤ 8 * cells c
   fitting-fits = omega (arith, l .able .whole, class-holds (length bs / 8) (l .able .most), ap cells (l .class))
 
-  pub fitting-bytes : blockBytes c (blockIn t bs) ≡ blockOf c t bs
+  pub fitting-bytes : blockBytes c (blockIn t bs) ≡ wholeBlock c t bs
   unfolding cells
   fitting-bytes =
-      sym (ap (blockOf c t) (sym (bytes-back bs (l .bytes) (omega (arith, l .able .whole))))
+      sym (ap (wholeBlock c t) (sym (bytes-back bs (l .bytes) (omega (arith, l .able .whole))))
       ∙ block-is c t (recordsIn bs) (omega (arith, fitting-fits, l .able .whole, length-records bs 0 (length bs / 8))))

@@ -1,6 +1,7 @@
 // All zones laid out afresh, without gaps, where placing finds no room.
 use crate::place::place;
 use crate::place::put_block;
+use home::AREA;
 use home::classes::cells;
 use home::classes::class_of;
 use home::lookup::zone_count;
@@ -76,7 +77,7 @@ fn lay_afresh(home: &mut [u8], tag: u32, list: &[u8]) -> bool
 {
     let c = class_of(list.len() / 8);
     let k = cells(c);
-    let area = (home.len() - 1664) / 8;
+    let area = (home.len() - AREA) / 8;
     if area < total(home) + k {
         return false;
     }

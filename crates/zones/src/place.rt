@@ -1,4 +1,5 @@
 // A block placed, from a class up given the end of the zones below it.
+use home::AREA;
 use home::classes::cells;
 use home::classes::class_of;
 use home::lookup::zone_count;
@@ -18,14 +19,14 @@ ghost use Rattle.home.specs.Capacities.{cells as sizeOf};
 ghost use Rattle.home.specs.Bytes.{cellAt};
 ghost use Rattle.home.specs.Sound.{pagesOf};
 ghost use Rattle.moves.specs.Stored.{settled};
-ghost use Rattle.zones.specs.Place.{blockOf, RoomAt, withBlock, From, placedFrom, placedIn, Placeable};
+ghost use Rattle.zones.specs.Place.{wholeBlock, RoomAt, withBlock, From, placedFrom, placedIn, Placeable};
 
 // Writes a whole block of class c at cell p: its header, its list, and zeros to its end.
 fn write_block(home: &mut [u8], c: usize, p: usize, tag: u32, list: &[u8])
     requires { ⌜ (c < 30) × (cellAt p + 8 * sizeOf c ≤ length (now home)) × (length (now list) + 8 ≤ 8 * sizeOf c) ⌝ }
-    ensures { λ _. ⌜ now (home .exit) ≡ over (now (home .entry)) (cellAt p) (blockOf c tag (now (list .entry))) ⌝ }
+    ensures { λ _. ⌜ now (home .exit) ≡ over (now (home .entry)) (cellAt p) (wholeBlock c tag (now (list .entry))) ⌝ }
 {
-    let at = 1664 + 8 * p;
+    let at = AREA + 8 * p;
     let n = list.len();
     let free = 8 * cells(c) - 8 - n;
     wire::put32(home, at, tag);

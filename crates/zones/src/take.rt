@@ -1,4 +1,5 @@
 // A block taken out.
+use home::AREA;
 use home::classes::cells;
 use home::lookup::zone_count;
 use home::lookup::zone_first;
@@ -33,7 +34,7 @@ fn fill_place(home: &mut [u8], c: usize, last: usize, p: usize)
     if p < last {
         move_block(home, c, last, p);
     } else {
-        wire::fill(home, 1664 + 8 * p, 8 * cells(c), 0);
+        wire::fill(home, AREA + 8 * p, 8 * cells(c), 0);
     }
 }
 

@@ -1,6 +1,6 @@
 use mathlib.Core.Path.{sym, ap₂, _∙_}
 use native.Mathlib.Omega.{arith}
-use Rattle.records.specs.Records.{key, place as placeOf}
+use Rattle.records.specs.Records.{key, ranked as rankedIn}
 use Rattle.lists.specs.ListedLaws.{listed-inside, listed-rising, listed-records}
 use Rattle.edits.specs.EditsLaws.{found-held, absent-held, put-held}
 use borrow.Author.Needs.{needs}
@@ -21,7 +21,7 @@ enum-known-j c = search needs
 
 insert-record-requires : tie.Need-insert-record-requires
 insert-record-requires c κs =
-    let a = absent-held (key (c .before .before .before .before .before .before .before .before .args .r)) (c .before .before .j .given .0 .0) _ (sym (c .before .before .j .given .1) ∙ c .before .before .before .before .search-at .ensures ∙ ap₂ placeOf (c .before .before .before .before .before .key-of .ensures) (listed-records _ _ _ _ (c .before .before .before .before .before .before .before .before .pre))) in
+    let a = absent-held (key (c .before .before .before .before .before .before .before .before .args .r)) (c .before .before .j .given .0 .0) _ (sym (c .before .before .j .given .1) ∙ c .before .before .before .before .search-at .ensures ∙ ap₂ rankedIn (c .before .before .before .before .before .key-of .ensures) (listed-records _ _ _ _ (c .before .before .before .before .before .before .before .before .pre))) in
     record { listed = c .before .before .before .before .before .before .before .before .pre; held = a .0; rank = a .1; fits = record { level = omega arith; second = omega arith; phone = omega arith; minutes = omega arith } }
 
 same-length : tie.Need-same-length
@@ -29,7 +29,7 @@ same-length c = search needs
 
 returns : tie.Need-returns
 returns c =
-    let f = found-held (key (c .before .before .before .before .before .before .args .r)) (c .enum-told .given .0 .0) _ (sym (c .enum-told .given .1) ∙ c .before .before .search-at .ensures ∙ ap₂ placeOf (c .before .before .before .key-of .ensures) (listed-records _ _ _ _ (c .before .before .before .before .before .before .pre))) in
+    let f = found-held (key (c .before .before .before .before .before .before .args .r)) (c .enum-told .given .0 .0) _ (sym (c .enum-told .given .1) ∙ c .before .before .search-at .ensures ∙ ap₂ rankedIn (c .before .before .before .key-of .ensures) (listed-records _ _ _ _ (c .before .before .before .before .before .before .pre))) in
     put-held _ _ _ _ (c .before .before .before .before .before .before .pre) _ (f .0)
 
 same-length-2 : tie.Need-same-length-2

@@ -1,6 +1,6 @@
 use mathlib.Core.Path.{sym, ap, _∙_}
 use native.Mathlib.Omega.{arith}
-use Rattle.records.specs.Records.{place as placeOf}
+use Rattle.records.specs.Records.{ranked as rankedIn}
 use Rattle.lists.specs.ListedLaws.{listed-inside, listed-rising, listed-records}
 use Rattle.lists.specs.RecordLaws.{ranked-under}
 use Rattle.edits.specs.EditsLaws.{found-held, absent-held, set-none, set-done}
@@ -16,7 +16,7 @@ enum-known-j c = search needs
 
 set-here-requires : tie.Need-set-here-requires
 set-here-requires c κs =
-    let f = found-held _ (c .before .before .j .given .0 .0) _ (sym (c .before .before .j .given .1) ∙ c .before .before .before .before .search-at .ensures ∙ ap (placeOf (c .before .before .before .before .before .before .before .args .key)) (listed-records _ _ _ _ (c .before .before .before .before .before .before .before .pre))) in
+    let f = found-held _ (c .before .before .j .given .0 .0) _ (sym (c .before .before .j .given .1) ∙ c .before .before .before .before .search-at .ensures ∙ ap (rankedIn (c .before .before .before .before .before .before .before .args .key)) (listed-records _ _ _ _ (c .before .before .before .before .before .before .before .pre))) in
     (ranked-under _ _ _ _ _ (record { listed = c .before .before .before .before .before .before .before .pre; key = c .before .before .before .before .before .before .before .args .key; held = f .0; rank = f .1 }), listed-inside _ _ _ _ (c .before .before .before .before .before .before .before .pre))
 
 enum-told : tie.Need-enum-told
@@ -27,7 +27,7 @@ same-length c = search needs
 
 returns : tie.Need-returns
 returns c =
-    let f = found-held _ (c .before .before .before .before .before .j .given .0 .0) _ (sym (c .before .before .before .before .before .j .given .1) ∙ c .before .before .before .before .before .before .before .search-at .ensures ∙ ap (placeOf (c .before .before .before .before .before .before .before .before .before .before .args .key)) (listed-records _ _ _ _ (c .before .before .before .before .before .before .before .before .before .before .pre))) in
+    let f = found-held _ (c .before .before .before .before .before .j .given .0 .0) _ (sym (c .before .before .before .before .before .j .given .1) ∙ c .before .before .before .before .before .before .before .search-at .ensures ∙ ap (rankedIn (c .before .before .before .before .before .before .before .before .before .before .args .key)) (listed-records _ _ _ _ (c .before .before .before .before .before .before .before .before .before .before .pre))) in
     let d = set-done _ _ _ _ _ (c .before .before .before .before .before .before .before .before .before .before .args .minutes) (record { listed = c .before .before .before .before .before .before .before .before .before .before .pre; key = c .before .before .before .before .before .before .before .before .before .before .args .key; held = f .0; rank = f .1 }) (omega arith) in
     (d .0, c .before .before .set-here .ensures ∙ d .1)
 
@@ -36,7 +36,7 @@ same-length-2 c = search needs
 
 returns-2 : tie.Need-returns-2
 returns-2 c =
-    let a = absent-held _ (c .enum-told .given .0 .0) _ (sym (c .enum-told .given .1) ∙ c .before .before .search-at .ensures ∙ ap (placeOf (c .before .before .before .before .before .args .key)) (listed-records _ _ _ _ (c .before .before .before .before .before .pre))) in
+    let a = absent-held _ (c .enum-told .given .0 .0) _ (sym (c .enum-told .given .1) ∙ c .before .before .search-at .ensures ∙ ap (rankedIn (c .before .before .before .before .before .args .key)) (listed-records _ _ _ _ (c .before .before .before .before .before .pre))) in
     set-none _ _ _ (a .0) _
 
 pub set-known-spec : {M : Type 1} → statement M

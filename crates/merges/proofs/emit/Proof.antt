@@ -1,8 +1,9 @@
 use native.Mathlib.Omega.{arith}
 use mathlib.Core.Path.{_≡_, sym, _∙_}
 use borrow.Author.Tests.{not-true, not-false}
-use Rattle.records.specs.Records.{keeps, tally}
-use Rattle.records.specs.LoopLaws.{emit-none, emit-one, tally-one}
+use Rattle.records.specs.Records.{tally}
+use Rattle.merges.specs.Merging.{keeps}
+use Rattle.merges.specs.LoopLaws.{emit-none, emit-one, tally-one}
 use borrow.Author.Needs.{needs}
 use Rattle.merges.proofs.emit.Statement.{statement}
 use Rattle.merges.proofs.emit.Tie as tie

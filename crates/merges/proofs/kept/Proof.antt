@@ -1,4 +1,4 @@
-use Rattle.records.specs.Records.{keeps}
+use Rattle.merges.specs.Merging.{keeps}
 use borrow.Author.Needs.{needs}
 use Rattle.merges.proofs.kept.Statement.{statement}
 use Rattle.merges.proofs.kept.Tie as tie

@@ -4,7 +4,7 @@ use Prim.Native.Nat.{_+_, _-_, _/_}
 use lib.ListN.{length}
 use borrow.Author.Tests.{ltb-true, ltb-false}
 use Rattle.wire.specs.BytesLaws.{length-over}
-use Rattle.records.specs.LoopLaws.{Turn, Count, count-start, count-turn, count-end, count-room, Written, written-start, written-turn, written-end, merge-turn}
+use Rattle.merges.specs.LoopLaws.{Turn, Count, count-start, count-turn, count-end, count-room, Written, written-start, written-turn, written-end, merge-turn}
 use borrow.Author.Needs.{needs}
 use Rattle.merges.proofs.merge_into.Statement.{statement}
 use Rattle.merges.proofs.merge_into.Tie as tie

@@ -1,4 +1,4 @@
-use Rattle.records.specs.Records.{ofFirst, ofSecond, next}
+use Rattle.merges.specs.Merging.{ofFirst, ofSecond, next}
 use mathlib.Core.Path.{_≡_, ap}
 use native.Mathlib.Omega.{arith}
 use borrow.Author.Needs.{needs}

@@ -1,4 +1,4 @@
-use Rattle.records.specs.Records.{ofFirst}
+use Rattle.merges.specs.Merging.{ofFirst}
 use borrow.Author.Needs.{needs}
 use Rattle.merges.proofs.of_first.Statement.{statement}
 use Rattle.merges.proofs.of_first.Tie as tie

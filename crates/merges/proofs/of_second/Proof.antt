@@ -1,4 +1,4 @@
-use Rattle.records.specs.Records.{ofSecond}
+use Rattle.merges.specs.Merging.{ofSecond}
 use borrow.Author.Needs.{needs}
 use Rattle.merges.proofs.of_second.Statement.{statement}
 use Rattle.merges.proofs.of_second.Tie as tie

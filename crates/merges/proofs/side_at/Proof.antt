@@ -1,4 +1,4 @@
-use Rattle.records.specs.LoopLaws.{side-over, side-alone, side-before, side-after, side-same}
+use Rattle.merges.specs.LoopLaws.{side-over, side-alone, side-before, side-after, side-same}
 use native.Mathlib.Omega.{arith}
 use borrow.Author.Needs.{needs}
 use Rattle.merges.proofs.side_at.Statement.{statement}

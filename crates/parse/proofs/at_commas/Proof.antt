@@ -1,5 +1,6 @@
 use mathlib.Core.Path.{_∙_}
-use Rattle.parse.specs.ParseLaws.{number-below, built-at}
+use Rattle.text.specs.ReadLaws.{number-below}
+use Rattle.parse.specs.ParseLaws.{built-at}
 use Rattle.wire.specs.Bytes.{part}
 use borrow.Author.Needs.{needs}
 use Rattle.parse.proofs.at_commas.Statement.{statement}

@@ -8,7 +8,7 @@ use Rattle.parse.proofs.parse.Tie as tie
 use Rattle.parse.proofs.parse.Reads as reads
 use Rattle.parse.proofs.parse.Lts as lts
 use Rattle.parse.proofs.at_commas.Reads as at-commas-reads
-use Rattle.parse.proofs.find.Reads as find-reads
+use Rattle.text.proofs.find.Reads as find-reads
 
 -- the fields counted behind each comma
 counted-1 : (c : lts.Else2 (find-reads.Asked, find-reads.Learnt, at-commas-reads.Asked, at-commas-reads.Learnt) reads.Pre reads.Post) → Counted (c .before .before .before .before .args .line .now) 1 (c .before .find .result + 1)

@@ -1,5 +1,6 @@
 use native.Mathlib.Omega.{arith}
-use Rattle.print.specs.PrintLaws.{field-ten, wrote-head}
+use Rattle.text.specs.WriteLaws.{field-ten}
+use Rattle.print.specs.PrintLaws.{wrote-head}
 use borrow.Author.Needs.{needs}
 use Rattle.print.proofs.put_head.Statement.{statement}
 use Rattle.print.proofs.put_head.Tie as tie

@@ -1,5 +1,6 @@
 use native.Mathlib.Omega.{arith}
-use Rattle.print.specs.PrintLaws.{field-three, wrote-no}
+use Rattle.text.specs.WriteLaws.{field-three}
+use Rattle.print.specs.PrintLaws.{wrote-no}
 use borrow.Author.Needs.{needs}
 use Rattle.print.proofs.put_no.Statement.{statement}
 use Rattle.print.proofs.put_no.Tie as tie

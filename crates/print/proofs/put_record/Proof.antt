@@ -1,5 +1,6 @@
 use native.Mathlib.Omega.{arith}
-use Rattle.print.specs.PrintLaws.{field-three, field-five, field-ten, wrote-record}
+use Rattle.text.specs.WriteLaws.{field-three, field-five, field-ten}
+use Rattle.print.specs.PrintLaws.{wrote-record}
 use borrow.Author.Needs.{needs}
 use Rattle.print.proofs.put_record.Statement.{statement}
 use Rattle.print.proofs.put_record.Tie as tie

@@ -1,6 +1,7 @@
 use native.Mathlib.Omega.{arith}
 use Rattle.reads.specs.MergesLaws.{written-not, written-all}
-use Rattle.records.specs.Records.{decode, merge}
+use Rattle.records.specs.Records.{decode}
+use Rattle.merges.specs.Merging.{merge}
 use borrow.Author.Needs.{needs}
 use Rattle.reads.proofs.merge_lists.Statement.{statement}
 use Rattle.reads.proofs.merge_lists.Tie as tie

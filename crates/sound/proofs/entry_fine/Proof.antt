@@ -4,12 +4,12 @@ use borrow.Author.Tests.{not-true, not-false}
 use lib.Dec.{eqb}
 use Rattle.sound.specs.CheckLoopLaws.{entry-low, entry-astray, entry-rest, leads-inside}
 use borrow.Author.Needs.{needs}
-use Rattle.home.specs.Bytes.{placeAt}
+use Rattle.home.specs.Bytes.{entryCell}
 use Rattle.sound.proofs.entry_fine.Statement.{statement}
 use Rattle.sound.proofs.entry_fine.Tie as tie
 
 returns : tie.Need-returns
-returns c = let a = c .before .before .before .args in entry-low (a .home .now) (a .area) (a .low) (a .i) (a .tag) (placeAt (a .home .now) (a .i)) (c .before .before .before .pre .1) refl (search needs)
+returns c = let a = c .before .before .before .args in entry-low (a .home .now) (a .area) (a .low) (a .i) (a .tag) (entryCell (a .home .now) (a .i)) (c .before .before .before .pre .1) refl (search needs)
 
 mul-get16 : tie.Need-mul-get16
 mul-get16 c = search needs

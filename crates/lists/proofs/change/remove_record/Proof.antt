@@ -1,10 +1,17 @@
-use mathlib.Core.Path.{sym, _∙_}
+use mathlib.Core.Path.{_≡_, _∙_}
+use mathlib.Core.List.{List}
+use Prim.Native.Nat.{ℕ, _<_}
 use native.Mathlib.Omega.{arith}
+use Rattle.home.specs.CapacitiesLaws.{class-below, class-kept, class-lost}
+use Rattle.lists.specs.Listed.{Listed}
 use Rattle.lists.specs.ListedLaws.{listed-known, listed-some, listed-most, listed-inside}
 use Rattle.lists.specs.RecordLaws.{ranked-under, out-last, out-here}
 use borrow.Author.Needs.{needs}
 use Rattle.lists.proofs.change.remove_record.Statement.{statement}
 use Rattle.lists.proofs.change.remove_record.Tie as tie
+
+more-than-one : (h : List ℕ) (t p n : ℕ) → Listed h t p n → (n ≡ 1 → ⊥) → 1 < n
+more-than-one h t p n l e = omega (arith, listed-some h t p n l)
 
 class-of-requires : tie.Need-class-of-requires
 class-of-requires c κs = omega (arith, listed-most _ _ _ _ (c .before .pre .listed))
@@ -12,11 +19,11 @@ class-of-requires c κs = omega (arith, listed-most _ _ _ _ (c .before .pre .lis
 take-out-requires : tie.Need-take-out-requires
 take-out-requires c κs = rw (c .before .before .class-of .ensures) (listed-known _ _ _ _ (c .before .before .before .before .pre .listed))
 
-sub-class-of : tie.Need-sub-class-of
-sub-class-of c = listed-some _ _ _ _ (c .before .before .before .pre .listed)
+under-requires : tie.Need-under-requires
+under-requires c κs = rw (c .before .class-of .ensures) (class-below _ (listed-most _ _ _ _ (c .before .before .before .pre .listed)))
 
-class-of-requires-2 : tie.Need-class-of-requires-2
-class-of-requires-2 c κs = omega (arith, listed-most _ _ _ _ (c .before .before .before .pre .listed))
+sub-if2 : tie.Need-sub-if2
+sub-if2 c = listed-some _ _ _ _ (c .before .before .before .before .pre .listed)
 
 remove-here-requires : tie.Need-remove-here-requires
 remove-here-requires c κs = (ranked-under _ _ _ _ _ (c .before .before .before .before .before .before .pre), listed-inside _ _ _ _ (c .before .before .before .before .before .before .pre .listed))
@@ -25,7 +32,10 @@ slice-aggregate-remove-moving : tie.Need-slice-aggregate-remove-moving
 slice-aggregate-remove-moving c = search needs
 
 remove-moving-requires : tie.Need-remove-moving-requires
-remove-moving-requires c κs = (c .before .before .before .before .before .before .before .pre, omega (arith, c .before .before .before .before .if1 .left, listed-some _ _ _ _ (c .before .before .before .before .before .before .before .pre .listed)), (λ e. c .before .before .if2 .left (c .before .before .before .class-of2 .ensures ∙ e ∙ sym (c .before .before .before .before .before .class-of .ensures))), omega (arith, listed-most _ _ _ _ (c .before .before .before .before .before .before .before .pre .listed)))
+remove-moving-requires c κs =
+    let r = c .before .before .before .before .before .before .before .pre in
+    let several = more-than-one _ _ _ _ (r .listed) (c .before .before .before .before .if1 .left) in
+    (r, several, class-lost _ _ several (listed-most _ _ _ _ (r .listed)) (c .before .before .before .before .before .class-of .ensures) (omega (arith, c .before .before .if2 .left, c .before .before .before .under .ensures)), omega (arith, listed-most _ _ _ _ (r .listed)))
 
 same-length : tie.Need-same-length
 same-length c = search needs
@@ -37,7 +47,10 @@ same-length-2 : tie.Need-same-length-2
 same-length-2 c = search needs
 
 returns-2 : tie.Need-returns-2
-returns-2 c = c .before .before .remove-here .ensures ∙ out-here _ _ _ _ _ (c .before .before .before .before .before .before .before .before .before .pre) (omega (arith, c .before .before .before .before .before .before .if1 .left, listed-some _ _ _ _ (c .before .before .before .before .before .before .before .before .before .pre .listed))) (sym (c .before .before .before .before .before .class-of2 .ensures) ∙ c .before .before .before .before .if2 .taken ∙ c .before .before .before .before .before .before .before .class-of .ensures)
+returns-2 c =
+    let r = c .before .before .before .before .before .before .before .before .before .pre in
+    let several = more-than-one _ _ _ _ (r .listed) (c .before .before .before .before .before .before .if1 .left) in
+    c .before .before .remove-here .ensures ∙ out-here _ _ _ _ _ r several (class-kept _ _ several (listed-most _ _ _ _ (r .listed)) (c .before .before .before .before .before .before .before .class-of .ensures) (omega (arith, c .before .before .before .before .if2 .taken, c .before .before .before .before .before .under .ensures)))
 
 same-length-3 : tie.Need-same-length-3
 same-length-3 c = search needs
@@ -51,8 +64,8 @@ remove-record-spec =
     (tie.spec
     class-of-requires
     take-out-requires
-    sub-class-of
-    class-of-requires-2
+    under-requires
+    sub-if2
     remove-here-requires
     slice-aggregate-remove-moving
     remove-moving-requires

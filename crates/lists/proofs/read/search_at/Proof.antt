@@ -1,5 +1,5 @@
 use mathlib.Core.Path.{ap, _∙_}
-use Rattle.records.specs.Records.{place as placeOf}
+use Rattle.records.specs.Records.{ranked as rankedIn}
 use Rattle.lists.specs.ListedLaws.{part-records}
 use borrow.Author.Needs.{needs}
 use Rattle.lists.proofs.read.search_at.Statement.{statement}
@@ -33,7 +33,7 @@ search-requires : tie.Need-search-requires
 search-requires c κs = rw (part-records _ _ _ (c .before .before .pre .0)) (c .before .before .pre .1)
 
 returns : tie.Need-returns
-returns c = c .search .ensures ∙ ap (placeOf (c .before .before .before .args .key)) (part-records _ _ _ (c .before .before .before .pre .0))
+returns c = c .search .ensures ∙ ap (rankedIn (c .before .before .before .args .key)) (part-records _ _ _ (c .before .before .before .pre .0))
 
 pub search-at-spec : {M : Type 1} → statement M
 search-at-spec =

@@ -1,8 +1,8 @@
 use mathlib.Core.Path.{_∙_}
 use Rattle.home.specs.CapacitiesLaws.{under-none, under-some}
 use borrow.Author.Needs.{needs}
-use Rattle.sound.proofs.under.Statement.{statement}
-use Rattle.sound.proofs.under.Tie as tie
+use Rattle.home.proofs.classes.under.Statement.{statement}
+use Rattle.home.proofs.classes.under.Tie as tie
 
 returns : tie.Need-returns
 returns c = under-none (c .before .args .c) (search needs)

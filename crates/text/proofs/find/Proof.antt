@@ -2,11 +2,11 @@ use mathlib.Core.Path.{_≡_, refl}
 use native.Mathlib.Omega.{arith}
 use Prim.Native.Nat.{_+_, _-_, _≤_}
 use lib.ListN.{length, drop}
-use Rattle.parse.specs.ParseLaws.{before-here, before-turn, before-end}
+use Rattle.text.specs.ReadLaws.{before-here, before-turn, before-end}
 use borrow.Author.Needs.{needs}
-use Rattle.parse.proofs.find.Statement.{statement}
-use Rattle.parse.specs.Commas.{before}
-use Rattle.parse.proofs.find.Tie as tie
+use Rattle.text.proofs.find.Statement.{statement}
+use Rattle.text.specs.Text.{before}
+use Rattle.text.proofs.find.Tie as tie
 
 abbrev Inv-loop : tie.InvT-loop
 Inv-loop line from byte i₀ i = (i ≤ length line) × (i + before byte (drop i line) ≡ from + before byte (drop from line))

@@ -1,8 +1,8 @@
 use native.Mathlib.Omega.{arith}
-use Rattle.print.specs.PrintLaws.{field-long, wrote-field}
+use Rattle.text.specs.WriteLaws.{field-long, wrote-field}
 use borrow.Author.Needs.{needs}
-use Rattle.print.proofs.put_field.Statement.{statement}
-use Rattle.print.proofs.put_field.Tie as tie
+use Rattle.text.proofs.put_field.Statement.{statement}
+use Rattle.text.proofs.put_field.Tie as tie
 
 put-number-requires : tie.Need-put-number-requires
 put-number-requires c κs = omega (arith, field-long (c .before .before .args .v) (c .before .before .args .end))

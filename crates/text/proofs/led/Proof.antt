@@ -1,8 +1,8 @@
 use native.Mathlib.Omega.{arith}
-use Rattle.parse.specs.ParseLaws.{led-short, led-long}
+use Rattle.text.specs.ReadLaws.{led-short, led-long}
 use borrow.Author.Needs.{needs}
-use Rattle.parse.proofs.led.Statement.{statement}
-use Rattle.parse.proofs.led.Tie as tie
+use Rattle.text.proofs.led.Statement.{statement}
+use Rattle.text.proofs.led.Tie as tie
 
 returns : tie.Need-returns
 returns c = led-short _ (omega arith)

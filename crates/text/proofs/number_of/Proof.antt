@@ -3,10 +3,10 @@ use native.Mathlib.Omega.{arith}
 use Prim.Native.Nat.{_-_}
 use lib.ListN.{length}
 use borrow.Author.Tests.{not-true, not-false}
-use Rattle.parse.specs.ParseLaws.{Turn, turn-first, turn-next, turn-low, turn-high, turn-over, turn-last, unled}
+use Rattle.text.specs.ReadLaws.{Turn, turn-first, turn-next, turn-low, turn-high, turn-over, turn-last, unled}
 use borrow.Author.Needs.{needs}
-use Rattle.parse.proofs.number_of.Statement.{statement}
-use Rattle.parse.proofs.number_of.Tie as tie
+use Rattle.text.proofs.number_of.Statement.{statement}
+use Rattle.text.proofs.number_of.Tie as tie
 
 abbrev Inv-loop : tie.InvT-loop
 Inv-loop s most most' v₀ i₀ v i = Turn most s v i

@@ -9,12 +9,13 @@ use native.Mathlib.Omega.{arith}
 use borrow.Author.Tests.{lt-ltb, le-ltb}
 use Rattle.wire.specs.Bytes.{pick}
 use Rattle.wire.specs.Cases.{by-lt, by-eq, never}
 use Rattle.records.specs.declared.Record.{Record}
-use Rattle.records.specs.declared.Side.the-variants.{First, Shared, Second}
-use Rattle.records.specs.declared.Merge.{Merge}
-use Rattle.records.specs.declared.Merge.the-variants.{Both, Either, Without}
-use Rattle.records.specs.Records.{key, risingFrom, look, held, side, keeps, keep, merge, merged}
+use Rattle.records.specs.Records.{key, risingFrom, look, held}
 use Rattle.records.specs.Order.{rising-cons, rising-parts, rising-lower, rising-nil, look-here, look-past, look-nil, look-low, look-in, in-look}
+use Rattle.merges.specs.declared.Side.the-variants.{First, Shared, Second}
+use Rattle.merges.specs.declared.Merge.{Merge}
+use Rattle.merges.specs.declared.Merge.the-variants.{Both, Either, Without}
+use Rattle.merges.specs.Merging.{side, keeps, keep, merge, merged}
 
 -- ---- the lowest call of two lists, and the rest
 

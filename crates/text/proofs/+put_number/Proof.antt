@@ -1,14 +1,14 @@
 use Prim.Native.Nat.{ℕ, _<_}
 use native.Mathlib.Omega.{arith}
 use borrow.Author.Needs.{needs}
-use Rattle.print.specs.PrintLaws.{digits-some, room-tenth, wrote-one, wrote-last}
+use Rattle.text.specs.WriteLaws.{digits-some, room-tenth, wrote-one, wrote-last}
 use borrow.Fn.Kinds.{In}
 use borrow.Fn.PlainCycle.{Measures, is, falls, and}
-use Rattle.print.proofs.put_number.Reads as put-number
-use Rattle.print.proofs.put_number.Kinds as put-number-kinds
-use Rattle.print.proofs.+put_number.Lts-put_number as put-number-lts
-use Rattle.print.proofs.+put_number.{statement}
-use Rattle.print.proofs.+put_number.Tie.{close}
+use Rattle.text.proofs.put_number.Reads as put-number
+use Rattle.text.proofs.put_number.Kinds as put-number-kinds
+use Rattle.text.proofs.+put_number.Lts-put_number as put-number-lts
+use Rattle.text.proofs.+put_number.{statement}
+use Rattle.text.proofs.+put_number.Tie.{close}
 
 abbrev μ-put-number : Measures 1 put-number-kinds.ps ℕ
 μ-put-number κs a = a .1 .1 .0

@@ -3,7 +3,7 @@ use mathlib.Core.Path.{_≡_, refl}
 use mathlib.Core.Bool.{Bool, true, _&&_}
 use mathlib.Core.List.{[], _∷_}
 use Rattle.wire.specs.Bytes.{equal}
-use Rattle.print.specs.Print.{digitsBy, digits}
+use Rattle.text.specs.Text.{digitsBy, digits}
 
 printed : Bool
 unfolding digitsBy equal

@@ -15,7 +15,7 @@ use Rattle.home.specs.PermLaws.{psym, plength, pall, ppairs, pairs-head, pmap}
 use Rattle.home.specs.Valid.{Other}
 use Rattle.home.specs.Layout.{Sits, Fit}
 use Rattle.home.specs.FindLaws.{pdistinct}
-use Rattle.home.specs.Bytes.{Spot, row, spots, paint, Entry, entryOf, sorted, dictionary, padded, entries, area, encode, blockBytes}
+use Rattle.home.specs.Bytes.{Spot, row, spots, paint, Entry, entryOf, sorted, dictionary, padded, zoneEntries, area, encode, blockBytes}
 use Rattle.home.specs.BytesLaws.{chop, get32-front}
 use Rattle.home.specs.AreaLaws.{Good, Apart, Reads, bytesOf, length-block, length-paint}
 use Rattle.home.specs.HomeLaws.{get32-at}
@@ -37,8 +37,8 @@ abbrev pub SitsAt : Spot → Type 0
 SitsAt s = Sits (s .class) (s .block)
 
 -- zone entries es, and dictionary and area of these blocks
-unfoldable pub held : ℕ → List ℕ → List Spot → List ℕ
-held R es ss = state es (sorted (map entryOf ss)) (paint ss (replicate (8 * (8 * R)) 0))
+unfoldable pub atSpots : ℕ → List ℕ → List Spot → List ℕ
+atSpots R es ss = state es (sorted (map entryOf ss)) (paint ss (replicate (8 * (8 * R)) 0))
 
 -- they lie apart in the area, each of its class, no tag twice
 pub record Kept (R : ℕ) (ss : List Spot) : Type 0 where
@@ -64,27 +64,27 @@ module _ (R : ℕ) (small : R ≤ 1024) (es : List ℕ) (le : length es ≡ 120)
   lz : length zeros ≡ 8 * (8 * R)
   lz = length-replicate (8 * (8 * R)) 0
 
-  held-fine : (ss : List Spot) → Kept R ss → Fine (sorted (map entryOf ss))
-  held-fine ss k = record {
+  spots-fine : (ss : List Spot) → Kept R ss → Fine (sorted (map entryOf ss))
+  spots-fine ss k = record {
     few = omega (arith, plength (perm-sorted (map entryOf ss)), length-map ss entryOf, k .few);
     small = pall Small (psym (perm-sorted (map entryOf ss))) (small-entries R ss small (k .sit) (k .good));
   }
 
   -- the order in which they are named does not matter
-  pub held-perm : {ss ts : List Spot} → Perm ss ts → Kept R ss → held R es ss ≡ held R es ts
-  unfolding held
-  held-perm {ss = ss} p k = ap₂ (state es) (sorted-perm (pmap entryOf p) (pairs-of ss (k .distinct))) (paint-perm (8 * R) zeros lz p (k .good) (k .apart))
+  pub spots-perm : {ss ts : List Spot} → Perm ss ts → Kept R ss → atSpots R es ss ≡ atSpots R es ts
+  unfolding atSpots
+  spots-perm {ss = ss} p k = ap₂ (state es) (sorted-perm (pmap entryOf p) (pairs-of ss (k .distinct))) (paint-perm (8 * R) zeros lz p (k .good) (k .apart))
 
-  pub held-long : (ss : List Spot) → Kept R ss → length (held R es ss) ≡ 1664 + 64 * R
-  unfolding held
-  held-long ss k =
+  pub spots-long : (ss : List Spot) → Kept R ss → length (atSpots R es ss) ≡ 1664 + 64 * R
+  unfolding atSpots
+  spots-long ss k =
       let ds : List Entry = sorted (map entryOf ss) in
       let a : List ℕ = paint ss zeros in
-      join-length (length ds) es (padded ds) a le (ld es a le ds (held-fine ss k)) ∙ omega (arith, length-paint ss zeros, lz)
+      join-length (length ds) es (padded ds) a le (ld es a le ds (spots-fine ss k)) ∙ omega (arith, length-paint ss zeros, lz)
 
-  pub held-zoned : (ss : List Spot) → Kept R ss → (c f n : ℕ) → c < 30 → zoned (held R es ss) c f n ≡ held R (over es (4 * c) (bytes16 f ++ bytes16 n)) ss
-  unfolding held
-  held-zoned ss k c f n g = state-zoned es (paint ss zeros) le (sorted (map entryOf ss)) (held-fine ss k) c f n g
+  pub spots-zoned : (ss : List Spot) → Kept R ss → (c f n : ℕ) → c < 30 → zoned (atSpots R es ss) c f n ≡ atSpots R (over es (4 * c) (bytes16 f ++ bytes16 n)) ss
+  unfolding atSpots
+  spots-zoned ss k c f n g = state-zoned es (paint ss zeros) le (sorted (map entryOf ss)) (spots-fine ss k) c f n g
 
   -- ---- one block moved
 
@@ -102,9 +102,9 @@ module _ (R : ℕ) (small : R ≤ 1024) (es : List ℕ) (le : length es ≡ 120)
       let rest : List ℕ = drop (8 * s .cell + n) a in
       get32-at a (bytesOf s ++ rest) (8 * s .cell) (chop (8 * s .cell) n a ∙ ap (λ (l : List ℕ). l ++ rest) (reads s ss g)) ∙ get32-front (s .block .tag) [] (sit .tag)
 
-  pub held-movable : (s : Spot) (ss : List Spot) → Kept R (s ∷ ss) → Movable (held R es (s ∷ ss)) (s .cell)
-  unfolding held
-  held-movable s ss k =
+  pub spots-movable : (s : Spot) (ss : List Spot) → Kept R (s ∷ ss) → Movable (atSpots R es (s ∷ ss)) (s .cell)
+  unfolding atSpots
+  spots-movable s ss k =
       let x : Entry = entryOf s in
       let xs : List Entry = map entryOf ss in
       let a : List ℕ = paint (s ∷ ss) zeros in
@@ -112,13 +112,13 @@ module _ (R : ℕ) (small : R ≤ 1024) (es : List ℕ) (le : length es ≡ 120)
       let t : Parted (x .tag) (sorted xs) = kept x xs o in
       let d : sorted (x ∷ xs) ≡ t .pre ++ x ∷ t .post = sorted-one x xs t in
       subst (λ (l : List Entry). Movable (state es l a) (s .cell)) (sym d)
-      (state-movable es le (t .pre) (t .post) a (x .tag) (t .low) (t .high) x (s .cell) refl (subst Fine d (held-fine (s ∷ ss) k)) (subst (Pairs Below) d (sorted-rising (x ∷ xs) o))
+      (state-movable es le (t .pre) (t .post) a (x .tag) (t .low) (t .high) x (s .cell) refl (subst Fine d (spots-fine (s ∷ ss) k)) (subst (Pairs Below) d (sorted-rising (x ∷ xs) o))
       (bears s ss (all-head (k .good)) (all-head (k .sit))))
 
-  pub held-moved : (s : Spot) (q : ℕ) (ss : List Spot) → Kept R (s ∷ ss) → Kept R (spot (s .class) q (s .block) ∷ ss)
-      → moved (held R es (s ∷ ss)) (s .class) (s .cell) q ≡ held R es (spot (s .class) q (s .block) ∷ ss)
-  unfolding held carried paint
-  held-moved s q ss k k' =
+  pub spots-moved : (s : Spot) (q : ℕ) (ss : List Spot) → Kept R (s ∷ ss) → Kept R (spot (s .class) q (s .block) ∷ ss)
+      → moved (atSpots R es (s ∷ ss)) (s .class) (s .cell) q ≡ atSpots R es (spot (s .class) q (s .block) ∷ ss)
+  unfolding atSpots carried paint
+  spots-moved s q ss k k' =
       let x : Entry = entryOf s in
       let x' : Entry = entryOf (spot (s .class) q (s .block)) in
       let xs : List Entry = map entryOf ss in
@@ -131,14 +131,14 @@ module _ (R : ℕ) (small : R ≤ 1024) (es : List ℕ) (le : length es ≡ 120)
       let c : carried a (8 * s .cell) (8 * q) (8 * cells (s .class)) ≡ over (paint ss zeros) (8 * q) (bytesOf s) =
       ap (λ (l : List ℕ). over l (8 * q) (part a (8 * s .cell) (8 * cells (s .class)))) gone ∙ ap (over (paint ss zeros) (8 * q)) (reads s ss (all-head (k .good))) in
       ap (λ (l : List Entry). moved (state es l a) (s .class) (s .cell) q) d
-      ∙ state-moved es le (t .pre) (t .post) a (x .tag) (t .low) (t .high) x (s .class) (s .cell) q refl (subst Fine d (held-fine (s ∷ ss) k)) (bears s ss (all-head (k .good)) (all-head (k .sit)))
+      ∙ state-moved es le (t .pre) (t .post) a (x .tag) (t .low) (t .high) x (s .class) (s .cell) q refl (subst Fine d (spots-fine (s ∷ ss) k)) (bears s ss (all-head (k .good)) (all-head (k .sit)))
       ∙ ap₂ (state es) (sym d') c
 
 -- ---- a layout's bytes
 
-pub encode-held : (R : ℕ) → R ≤ 1024 → (zs : List Zone) → Loose R zs → encode R zs ≡ held R (entries zs) (spots 0 zs)
-unfolding held dictionary area
-encode-held R small zs v = encode-state R small zs v
+pub encode-spots : (R : ℕ) → R ≤ 1024 → (zs : List Zone) → Loose R zs → encode R zs ≡ atSpots R (zoneEntries zs) (spots 0 zs)
+unfolding atSpots dictionary area
+encode-spots R small zs v = encode-state R small zs v
 
 -- ---- blocks in the order of their cells
 

@@ -1,0 +1,4 @@
+pub mod Merging
+pub mod Examples
+pub mod MergingLaws
+pub mod LoopLaws
