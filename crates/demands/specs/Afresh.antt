@@ -31,9 +31,9 @@ use Rattle.home.specs.Bytes.{encode, decode}
 use Rattle.home.specs.Sound.{sound, pagesOf, listOf}
 use Rattle.home.specs.declared.Answer.{Answer}
 use Rattle.home.specs.declared.Answer.the-variants.{Count, Refused}
+use Rattle.home.specs.SoundLaws.{sound-valid}
 use Rattle.edits.specs.Edits.{putIn}
 use Rattle.moves.specs.Stored.{settled}
-use Rattle.zones.specs.SoundLaws.{sound-valid}
 use Rattle.gates.specs.declared.Of.the-variants.{Space}
 use Rattle.gates.specs.Gates.{gateRules}
 use Rattle.gates.specs.GatesLaws.{space-open}

@@ -38,8 +38,8 @@ use Rattle.home.specs.FindLaws.{find-none, lacks-has}
 use Rattle.home.specs.declared.Answer.{Answer}
 use Rattle.home.specs.declared.Answer.the-variants.{Count, Refused}
 use Rattle.home.specs.Valid.{Proper}
+use Rattle.home.specs.SoundLaws.{sound-valid, sound-tags}
 use Rattle.moves.specs.Stored.{settled}
-use Rattle.zones.specs.SoundLaws.{sound-valid, sound-tags}
 use Rattle.zones.specs.Place.{Placeable}
 use Rattle.zones.specs.Afresh.{settledIn}
 use Rattle.lists.specs.Lists.{setHere}

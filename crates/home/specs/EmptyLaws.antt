@@ -11,10 +11,9 @@ use Rattle.wire.specs.Cases.{bool-iff}
 use Rattle.home.specs.Zones.{Zone, empty, from, blocks}
 use Rattle.home.specs.Perm.{single}
 use Rattle.home.specs.Layout.{Valid}
-use Rattle.home.specs.Bytes.{encode}
-use Rattle.home.specs.Sound.{pagesOf, sized, sound, Sound}
-use Rattle.home.specs.SoundLaws.{t-sized, t-sound, sound-encode}
-use Rattle.home.specs.EntriesLaws.{tag-count}
+use Rattle.home.specs.Bytes.{encode, decode}
+use Rattle.home.specs.Sound.{pagesOf, sized, sound}
+use Rattle.home.specs.SoundLaws.{t-sized, sound-encode, encode-decode, sound-valid, sound-tags}
 
 unfoldable pub no-zones : List Zone
 no-zones = replicate 30 empty
@@ -42,10 +41,8 @@ zero-sound h s z =
 sound-zero : (h : List ℕ) → get16 h 0 ≡ 0 → sound h ≡ true → blank h ≡ true
 unfolding no-zones
 sound-zero h e t =
-    let s : Sound h = t-sound h .says t in
-    let n : length (blocks (s .zones)) ≡ 0 = sym (tag-count (s .pages) (s .zones) (s .valid) (s .high)) ∙ ap (λ (l : List ℕ). get16 l 0) (sym (s .bytes)) ∙ e in
-    let z : s .zones ≡ no-zones = no-blocks (s .zones) n ∙ ap (λ (k : ℕ). replicate k empty) (s .valid .classes) in
-    ap blank (s .bytes ∙ ap (encode (s .pages)) z ∙ no-zones-bytes (s .pages)) ∙ blank-zeros (64 * (26 + s .pages))
+    let z : decode h ≡ no-zones = no-blocks (decode h) (sym (sound-tags h t) ∙ e) ∙ ap (λ (k : ℕ). replicate k empty) (sound-valid h t .classes) in
+    ap blank (sym (encode-decode h t) ∙ ap (encode (pagesOf h)) z ∙ no-zones-bytes (pagesOf h)) ∙ blank-zeros (64 * (26 + pagesOf h))
 
 pub no-tags : (h : List ℕ) → sized h ≡ true → get16 h 0 ≡ 0 → blank h ≡ sound h
 no-tags h s e = bool-iff (blank h) (sound h) (zero-sound h s) (sound-zero h e)

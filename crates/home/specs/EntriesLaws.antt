@@ -1,20 +1,19 @@
 -- The dictionary's entries, read back off home's bytes.
 use mathlib.Core.Path.{_≡_, refl, sym, ap, ap₂, _∙_}
-use mathlib.Core.List.{List, [], _∷_, _++_, map, append-assoc}
-use Prim.Native.Nat.{ℕ, suc, _+_, _*_, _-_, _≤_, _<_}
+use mathlib.Core.List.{List, [], _∷_, _++_, map}
+use Prim.Native.Nat.{ℕ, suc, _+_, _*_, _≤_, _<_}
 use native.Mathlib.Omega.{arith}
-use lib.ListN.{length, drop, replicate, length-append}
-use lib.Seq.{drop-drop, drop-at}
+use lib.ListN.{length, drop}
+use lib.Seq.{drop-drop}
 use Rattle.wire.specs.Bytes.{get16, get32, bytes16, bytes32}
 use Rattle.wire.specs.All.{All, none, more}
-use Rattle.home.specs.Zones.{Zone, blocks}
-use Rattle.home.specs.Perm.{In}
-use Rattle.home.specs.Layout.{Sits, Fit, Valid}
-use Rattle.home.specs.Bytes.{Spot, spots, area, zoneEntries, Entry, entryOf, dictionary, entriesBytes, padded, encode, tagAt, entryCell, entriesAt}
-use Rattle.home.specs.PermLaws.{psym, pall, all-in}
+use Rattle.home.specs.Zones.{Zone}
+use Rattle.home.specs.Layout.{Sits, Fit}
+use Rattle.home.specs.Bytes.{Spot, spots, Entry, entryOf, dictionary, entriesBytes, tagAt, entryCell, entriesAt}
+use Rattle.home.specs.PermLaws.{psym, pall}
 use Rattle.home.specs.BytesLaws.{get16-front, get32-front}
 use Rattle.home.specs.AreaLaws.{Good, spots-sit, spots-good}
-use Rattle.home.specs.HomeLaws.{get16-at, get32-at, length-entries, length-dictionary, fit}
+use Rattle.home.specs.HomeLaws.{get16-at, get32-at}
 use Rattle.home.specs.DictionaryLaws.{dictionary-perm}
 use Rattle.home.specs.CapacitiesLaws.{cells-pos}
 
@@ -57,34 +56,3 @@ entries-back h i (d ∷ ds) rest e (more p ps) =
     let qc : entryCell h i ≡ d .cell = entry-cell h at d ds rest e (p .cell) in
     ap₂ {A = Entry} {B = List Entry} _∷_ (λ j. record { tag = qt j; cell = qc j })
     (entries-back h (suc i) ds rest (ap (λ (k : ℕ). drop k h) next ∙ sym (drop-drop 6 at h) ∙ entry-rest h at d ds rest e) ps)
-
-module _ (R : ℕ) (zs : List Zone) (v : Valid (8 * R) zs) (small : R ≤ 1024) where
-  abbrev home : List ℕ
-  home = encode R zs
-
-  pub entry-small : (d : Entry) → In d (dictionary zs) → Small d
-  entry-small d i = all-in Small d (dictionary zs) (dictionary-small R zs small (fit R zs v)) i
-
-  pub tag-count : get16 home 0 ≡ length (blocks zs)
-  unfolding encode bytes16 get16
-  tag-count = get16-front (length (blocks zs)) [] (omega (arith, v .few))
-
-  lead : List ℕ
-  lead = bytes16 (length (blocks zs)) ++ (zoneEntries zs ++ replicate 6 0)
-
-  home-split : home ≡ lead ++ (padded (dictionary zs) ++ area (8 * R) zs)
-  unfolding encode lead
-  home-split = simp append-assoc
-
-  length-lead : length lead ≡ 128
-  unfolding lead bytes16
-  length-lead = simp (length-append, length-entries) (omega (arith, v .classes))
-
-  pub home-dictionary : drop 128 home ≡ entriesBytes (dictionary zs) ++ (replicate (1536 - 6 * length (dictionary zs)) 0 ++ area (8 * R) zs)
-  unfolding padded
-  home-dictionary = ap (drop 128) home-split ∙ drop-at lead (padded (dictionary zs) ++ area (8 * R) zs) 128 length-lead
-      ∙ append-assoc (entriesBytes (dictionary zs)) (replicate (1536 - 6 * length (dictionary zs)) 0) (area (8 * R) zs)
-
-  pub home-entries : entriesAt home 0 (get16 home 0) ≡ dictionary zs
-  home-entries = ap (entriesAt home 0) (tag-count ∙ sym (length-dictionary zs))
-      ∙ entries-back home 0 (dictionary zs) (replicate (1536 - 6 * length (dictionary zs)) 0 ++ area (8 * R) zs) home-dictionary (dictionary-small R zs small (fit R zs v))

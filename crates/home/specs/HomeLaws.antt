@@ -1,4 +1,4 @@
--- Home's bytes part by part, and that they give back the layout.
+-- What home's bytes hold, and that blocks and zones are read back off them.
 use mathlib.Core.Path.{_≡_, refl, sym, ap, ap₂, _∙_}
 use mathlib.Core.List.{List, [], _∷_, _++_, map, append-assoc, List·Memᴰ, List·Memᴰ·head, List·Memᴰ·tail}
 use Prim.Native.Nat.{ℕ, suc, _+_, _*_, _-_, _/_, _≤_, _<_}
@@ -6,10 +6,9 @@ use native.Mathlib.Omega.{arith}
 use native.Mathlib.Nat.{mul-le-mul-left, add-zero}
 use lib.Dec.{ltb}
 use lib.ListN.{length, drop, getD, replicate, length-append, length-replicate, length-map, List·getD-append}
-use lib.Seq.{drop-at, drop-drop, getD-drop}
+use lib.Seq.{drop-drop, getD-drop}
 use Rattle.wire.specs.Bytes.{part, get16, get32, bytes16, bytes32}
-use Rattle.wire.specs.BytesLaws.{part-drop}
-use Rattle.wire.specs.All.{All, more, all-map}
+use Rattle.wire.specs.All.{All, more}
 use Rattle.records.specs.declared.Record.{Record}
 use Rattle.records.specs.Records.{Fits, records, encode as recordBytes}
 use Rattle.records.specs.Cells.{records-same}
@@ -17,12 +16,12 @@ use Rattle.records.specs.Edits.{length-encode, decode-encode as records-back}
 use Rattle.home.specs.Capacities.{cells, capacity}
 use Rattle.home.specs.CapacitiesLaws.{cells-pos, cells-most}
 use Rattle.home.specs.Zones.{Block, Zone, empty, from, zone, blocks}
-use Rattle.home.specs.Layout.{Sits, Fit, Valid}
-use Rattle.home.specs.Bytes.{blockBytes, Spot, row, spots, area, zoneEntries, Entry, entryOf, enter, sorted, dictionary, entriesBytes, padded, encode, cellAt, zoneEntryAt, countAt, blockAt, blocksAt, firstAt, manyAt, zoneAt, zonesFrom, decode}
+use Rattle.home.specs.Layout.{Sits, Fit}
+use Rattle.home.specs.Bytes.{blockBytes, Spot, row, spots, zoneEntries, Entry, entryOf, enter, sorted, dictionary, entriesBytes, padded, cellAt, zoneEntryAt, countAt, blockAt, blocksAt, firstAt, manyAt, zoneAt, zonesFrom}
 use Rattle.home.specs.Cases.{by-pick}
 use Rattle.home.specs.PermLaws.{all-left, all-right}
 use Rattle.home.specs.BytesLaws.{chop, get16-drop, get32-drop, get16-front, get32-front}
-use Rattle.home.specs.AreaLaws.{laid-fit, fit-le, bytesOf, Reads, area-reads, length-area, Zero, Clean, area-clean}
+use Rattle.home.specs.AreaLaws.{fit-le, bytesOf}
 
 -- ---- what home's bytes hold
 
@@ -165,54 +164,3 @@ length-entriesBytes (x ∷ xs) = omega (arith, length-entriesBytes xs)
 pub length-padded : (ds : List Entry) → length ds ≤ 256 → length (padded ds) ≡ 1536
 unfolding padded
 length-padded ds h = simp (length-append, length-entriesBytes, length-replicate) (omega arith)
-
--- ---- home part by part
-
-module _ (R : ℕ) (zs : List Zone) where
-  -- all before the record area
-  unfoldable pub lead : List ℕ
-  lead = bytes16 (length (blocks zs)) ++ (zoneEntries zs ++ (replicate 6 0 ++ padded (dictionary zs)))
-
-  pub encode-split : encode R zs ≡ lead ++ area (8 * R) zs
-  unfolding encode lead
-  encode-split = simp append-assoc
-
-  pub encode-entries : drop 2 (encode R zs) ≡ zoneEntries zs ++ (replicate 6 0 ++ (padded (dictionary zs) ++ area (8 * R) zs))
-  unfolding encode bytes16
-  encode-entries = refl
-
-  module _ (v : Valid (8 * R) zs) where
-    pub fit : Fit (8 * R) 0 0 zs
-    fit = laid-fit (8 * R) 0 0 zs (v .laid)
-
-    length-lead : length lead ≡ 1664
-    unfolding lead bytes16
-    length-lead = simp (length-append, length-entries) (omega (arith, length-padded (dictionary zs) (omega (arith, length-dictionary zs, v .few)), v .classes))
-
-    pub encode-area : drop 1664 (encode R zs) ≡ area (8 * R) zs
-    encode-area = ap (drop 1664) encode-split ∙ drop-at lead (area (8 * R) zs) 1664 length-lead
-
-    pub length-encode-home : length (encode R zs) ≡ 64 * (26 + R)
-    length-encode-home = ap length encode-split ∙ length-append lead (area (8 * R) zs) ∙ omega (arith, length-lead, length-area (8 * R) zs)
-
-    part-area : (i n : ℕ) → part (encode R zs) (cellAt i) n ≡ part (area (8 * R) zs) (8 * i) n
-    part-area i n = sym (part-drop (encode R zs) 1664 (8 * i) n) ∙ ap (λ (a : List ℕ). part a (8 * i) n) encode-area
-
-    pub encode-reads : All (ReadsAt (encode R zs)) (spots 0 zs)
-    encode-reads = all-map {P = Reads (area (8 * R) zs)} {Q = ReadsAt (encode R zs)} (λ s r. part-area (s .cell) (8 * cells (s .class)) ∙ r) (area-reads (8 * R) zs fit)
-
-    pub encode-clean : Clean (ZeroAt (encode R zs)) (8 * R) 0 0 zs
-    encode-clean = go 0 0 zs (area-clean (8 * R) zs fit)
-      where
-        go : (c e : ℕ) (ys : List Zone) → Clean (Zero (area (8 * R) zs)) (8 * R) c e ys → Clean (ZeroAt (encode R zs)) (8 * R) c e ys
-        go c e [] k = part-area e (8 * (8 * R - e)) ∙ k
-        go c e (empty ∷ ys) k = go (suc c) e ys k
-        go c e (from f x xs ∷ ys) k = (part-area e (8 * (f - e)) ∙ k .0, go (suc c) (f + suc (length xs) * cells c) ys (k .1))
-
-    pub encode-reads-entries : R ≤ 1024 → Entries (encode R zs) 0 zs
-    encode-reads-entries b = entries-read (8 * R) 0 0 zs (encode R zs) (replicate 6 0 ++ (padded (dictionary zs) ++ area (8 * R) zs)) (omega arith) fit encode-entries
-
-    -- decode of encode is the layout
-    pub decode-encode : R ≤ 1024 → decode (encode R zs) ≡ zs
-    unfolding decode
-    decode-encode b = ap (zonesFrom (encode R zs) 0) (sym (v .classes)) ∙ zones-back (8 * R) 0 0 zs (encode R zs) fit (encode-reads-entries b) encode-reads

@@ -28,9 +28,11 @@ pub mod ValidLaws
 pub mod BytesLaws
 pub mod AreaLaws
 pub mod HomeLaws
+pub mod JoinLaws
 pub mod SoundLaws
 pub mod DictionaryLaws
 pub mod EntriesLaws
+pub mod EncodeLaws
 pub mod EmptyLaws
 pub mod LookupLaws
 pub mod Lookup

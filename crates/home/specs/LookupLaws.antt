@@ -13,16 +13,15 @@ use Rattle.home.specs.Capacities.{cells}
 use Rattle.home.specs.Zones.{Block, Zone, blocks, find}
 use Rattle.home.specs.Perm.{In, Pairs, after}
 use Rattle.home.specs.Valid.{Other}
-use Rattle.home.specs.Layout.{Sits, Valid}
-use Rattle.home.specs.Bytes.{Spot, spots, Entry, entryOf, dictionary, encode, cellAt, countAt, tagAt, entryCell, entriesAt}
-use Rattle.home.specs.Sound.{sound, Sound, listOf}
+use Rattle.home.specs.Layout.{Sits}
+use Rattle.home.specs.Bytes.{Spot, spots, Entry, entryOf, decode, cellAt, countAt, tagAt, entryCell, entriesAt}
+use Rattle.home.specs.Sound.{pagesOf, sound, listOf}
 use Rattle.home.specs.PermLaws.{psym, pulled, all-in, in-all, in-map, map-in, pin}
 use Rattle.home.specs.FindLaws.{pfind, find-here, find-none}
 use Rattle.home.specs.AreaLaws.{bytesOf, Good, spots-sit, spots-good}
-use Rattle.home.specs.HomeLaws.{ReadsAt, block-count, block-records, block-starts, fit, length-encode-home, encode-reads}
-use Rattle.home.specs.SoundLaws.{t-sound, listOf-encode}
+use Rattle.home.specs.HomeLaws.{ReadsAt, block-count, block-records, block-starts}
+use Rattle.home.specs.SoundLaws.{sound-small, sound-some, sound-long, sound-valid, sound-loose, sound-tags, sound-words, sound-reads}
 use Rattle.home.specs.DictionaryLaws.{Below, spots-blocks, dictionary-rising, dictionary-perm}
-use Rattle.home.specs.EntriesLaws.{tag-count, home-entries}
 
 -- ---- entries by their number
 
@@ -48,49 +47,44 @@ pub record Held (h : List ℕ) (i : ℕ) : Type 0 where
   pub inside : cellAt (entryCell h i) + 8 + 8 * countAt h (entryCell h i) ≤ length h
   pub list : records h (cellAt (entryCell h i) + 8) (countAt h (entryCell h i)) ≡ listOf h (tagAt h i)
 
-module _ (R : ℕ) (zs : List Zone) (v : Valid (8 * R) zs) (small : R ≤ 1024) where
-  abbrev home : List ℕ
-  home = encode R zs
+module _ (h : List ℕ) (e : sound h ≡ true) where
+  abbrev zs : List Zone
+  zs = decode h
 
-  home-held : (i : ℕ) → i < get16 home 0 → Held home i
-  home-held i b =
-      let t : ℕ = tagAt home i in
-      let p : ℕ = entryCell home i in
+  abbrev n : ℕ
+  n = 8 * pagesOf h
+
+  pub entry-held : (i : ℕ) → i < get16 h 0 → Held h i
+  unfolding listOf
+  entry-held i b =
+      let t : ℕ = tagAt h i in
+      let p : ℕ = entryCell h i in
       let d : Entry = record { tag = t; cell = p } in
-      let m = in-map entryOf d (spots 0 zs) (pin d (dictionary-perm zs) (subst (In d) (home-entries R zs v small) (entry-in home 0 (get16 home 0) i (omega arith) (omega arith)))) in
+      let m = in-map entryOf d (spots 0 zs) (pin d (dictionary-perm zs) (subst (In d) (sound-words h e) (entry-in h 0 (get16 h 0) i (omega arith) (omega arith)))) in
       let s : Spot = m .0 in
-      let sit : Sits (s .class) (s .block) = all-in (λ (x : Spot). Sits (x .class) (x .block)) s (spots 0 zs) (spots-sit (8 * R) 0 0 zs (fit R zs v)) (m .1) in
-      let g : Good (8 * R) s = all-in (Good (8 * R)) s (spots 0 zs) (spots-good (8 * R) 0 0 zs (fit R zs v)) (m .1) in
-      let rest : List ℕ = drop (cellAt (s .cell) + 8 * cells (s .class)) home in
-      let e : drop (cellAt (s .cell)) home ≡ bytesOf s ++ rest = block-starts home s (all-in (ReadsAt home) s (spots 0 zs) (encode-reads R zs v) (m .1)) in
+      let sit : Sits (s .class) (s .block) = all-in (λ (x : Spot). Sits (x .class) (x .block)) s (spots 0 zs) (spots-sit n 0 0 zs (sound-loose h e .fit)) (m .1) in
+      let g : Good n s = all-in (Good n) s (spots 0 zs) (spots-good n 0 0 zs (sound-loose h e .fit)) (m .1) in
+      let rest : List ℕ = drop (cellAt (s .cell) + 8 * cells (s .class)) h in
+      let k : drop (cellAt (s .cell)) h ≡ bytesOf s ++ rest = block-starts h s (all-in (ReadsAt h) s (spots 0 zs) (sound-reads h e) (m .1)) in
       let qp : p ≡ s .cell = ap (λ (x : Entry). x .cell) (m .2) in
       let qt : t ≡ s .block .tag = ap (λ (x : Entry). x .tag) (m .2) in
-      let n : countAt home (s .cell) ≡ length (s .block .list) = block-count home (s .cell) (s .class) (s .block) rest e sit in
+      let c : countAt h (s .cell) ≡ length (s .block .list) = block-count h (s .cell) (s .class) (s .block) rest k sit in
       let f : find t (blocks zs) ≡ s .block .list = ap (λ (x : ℕ). find x (blocks zs)) qt
-      ∙ find-in (s .block) (blocks zs) (v .distinct) (subst (In (s .block)) (spots-blocks 0 zs) (map-in (λ (x : Spot). x .block) s (spots 0 zs) (m .1))) in
+      ∙ find-in (s .block) (blocks zs) (sound-valid h e .distinct) (subst (In (s .block)) (spots-blocks 0 zs) (map-in (λ (x : Spot). x .block) s (spots 0 zs) (m .1))) in
       record {
-        some = rw (qp, n) (sit .some);
-        inside = rw (qp, n) (omega (arith, sit .room, g .inside, length-encode-home R zs v));
-        list = rw (qp, n) (block-records home (s .cell) (s .class) (s .block) rest e sit ∙ sym f ∙ sym (listOf-encode R zs t small v));
+        some = rw (qp, c) (sit .some);
+        inside = rw (qp, c) (omega (arith, sit .room, g .inside, sound-long h e));
+        list = rw (qp, c) (block-records h (s .cell) (s .class) (s .block) rest k sit ∙ sym f);
       }
 
-  home-unknown : (t : ℕ) → ((i : ℕ) → i < get16 home 0 → t ≢ tagAt home i) → listOf home t ≡ []
-  home-unknown t h =
-      listOf-encode R zs t small v
-      ∙ find-none t (blocks zs) (in-all (λ (x : Block). t ≢ x .tag) (blocks zs) (λ b j e.
+  -- a tag that no entry has is unknown
+  pub unknown-tag : (t : ℕ) → ((i : ℕ) → i < get16 h 0 → t ≢ tagAt h i) → listOf h t ≡ []
+  unfolding listOf
+  unknown-tag t f = find-none t (blocks zs) (in-all (λ (x : Block). t ≢ x .tag) (blocks zs) (λ b j q.
       let m = in-map (λ (x : Spot). x .block) b (spots 0 zs) (subst (In b) (sym (spots-blocks 0 zs)) j) in
       let d : Entry = entryOf (m .0) in
-      let k = in-entry home 0 (get16 home 0) d (subst (In d) (sym (home-entries R zs v small)) (pin d (psym (dictionary-perm zs)) (map-in entryOf (m .0) (spots 0 zs) (m .1)))) in
-      h (k .0) (omega (arith, k .1)) (e ∙ ap (λ (x : Block). x .tag) (m .2) ∙ k .2)))
-
-pub entry-held : (h : List ℕ) (i : ℕ) → sound h ≡ true → i < get16 h 0 → Held h i
-entry-held h i t b = let s : Sound h = t-sound h .says t in
-    subst (λ (x : List ℕ). i < get16 x 0 → Held x i) (sym (s .bytes)) (home-held (s .pages) (s .zones) (s .valid) (s .high) i) b
-
--- a tag that no entry has is unknown
-pub unknown-tag : (h : List ℕ) (t : ℕ) → sound h ≡ true → ((i : ℕ) → i < get16 h 0 → t ≢ tagAt h i) → listOf h t ≡ []
-unknown-tag h t e f = let s : Sound h = t-sound h .says e in
-    subst (λ (x : List ℕ). ((i : ℕ) → i < get16 x 0 → t ≢ tagAt x i) → listOf x t ≡ []) (sym (s .bytes)) (home-unknown (s .pages) (s .zones) (s .valid) (s .high) t) f
+      let k = in-entry h 0 (get16 h 0) d (subst (In d) (sym (sound-words h e)) (pin d (psym (dictionary-perm zs)) (map-in entryOf (m .0) (spots 0 zs) (m .1)))) in
+      f (k .0) (omega (arith, k .1)) (q ∙ ap (λ (x : Block). x .tag) (m .2) ∙ k .2)))
 
 -- ---- tags rise with their entries' numbers, and there are at most 256
 
@@ -104,20 +98,11 @@ rising-at h i (suc n) a b (after x p) lo m hi =
     (λ d. rising-at h (suc i) n a b p (omega arith) m (omega arith))
 
 pub entries-rise : (h : List ℕ) (i j : ℕ) → sound h ≡ true → i < j → j < get16 h 0 → tagAt h i < tagAt h j
-entries-rise h i j t b c =
-    let s : Sound h = t-sound h .says t in
-    let q : entriesAt h 0 (get16 h 0) ≡ dictionary (s .zones) = subst (λ (x : List ℕ). entriesAt x 0 (get16 x 0) ≡ dictionary (s .zones)) (sym (s .bytes)) (home-entries (s .pages) (s .zones) (s .valid) (s .high)) in
-    rising-at h 0 (get16 h 0) i j (subst (Pairs Below) (sym q) (dictionary-rising (s .zones) (s .valid .distinct))) (omega arith) b (omega arith)
+entries-rise h i j t b c = rising-at h 0 (get16 h 0) i j (subst (Pairs Below) (sym (sound-words h t)) (dictionary-rising (decode h) (sound-valid h t .distinct))) (omega arith) b (omega arith)
 
 pub entries-few : (h : List ℕ) → sound h ≡ true → (get16 h 0 ≤ 256) × (1728 ≤ length h)
-entries-few h t =
-    let s : Sound h = t-sound h .says t in
-    let q : get16 h 0 ≡ length (blocks (s .zones)) = subst (λ (x : List ℕ). get16 x 0 ≡ length (blocks (s .zones))) (sym (s .bytes)) (tag-count (s .pages) (s .zones) (s .valid) (s .high)) in
-    let l : length h ≡ 64 * (26 + s .pages) = ap length (s .bytes) ∙ length-encode-home (s .pages) (s .zones) (s .valid) in
-    (omega (arith, s .valid .few), omega (arith, s .low))
+entries-few h t = (omega (arith, sound-tags h t, sound-valid h t .few), omega (arith, sound-some h t, sound-long h t))
 
 -- a sound home has at most 1,050 pages
 pub sound-short : (h : List ℕ) → sound h ≡ true → length h ≤ 67200
-sound-short h t =
-    let s : Sound h = t-sound h .says t in
-    omega (arith, ap length (s .bytes) ∙ length-encode-home (s .pages) (s .zones) (s .valid), s .high)
+sound-short h t = omega (arith, sound-small h t, sound-long h t)

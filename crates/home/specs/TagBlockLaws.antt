@@ -60,7 +60,7 @@ list-at h t p n s e = let d : Entered h t p n = block-entered h t p n e in go (d
     go : (i : ℕ) → slotOf h t ≡ At i → p ≡ entryCell h i → n ≡ countAt h (entryCell h i) → ListAt h t p n
     go i q ep en =
         let a = slot-at h t i (sound-ordered h s) q in
-        let k : Held h i = entry-held h i s (a .0) in
+        let k : Held h i = entry-held h s i (a .0) in
         let l : records h (listAt p) n ≡ listOf h t = rw (ep, en) (k .list ∙ ap (listOf h) (a .1)) in
         record {
           inside = rw (ep, en) (k .inside);
@@ -82,13 +82,13 @@ unfolding offsetOf behindHeader
 offset-unknown h t e = rw e
 
 pub list-none : (h : List ℕ) (t : ℕ) → sound h ≡ true → blockOf h t ≡ Unknown → listOf h t ≡ []
-list-none h t s e = unknown-tag h t s (unknown-absent h t e)
+list-none h t s e = unknown-tag h s t (unknown-absent h t e)
 
 -- ---- what the code finds
 
 -- an entry's block lies in home
 pub entry-inside : (h : List ℕ) (i : ℕ) → sound h ≡ true → i < get16 h 0 → (i < 256) × (1664 ≤ length h) × (cellAt (entryCell h i) + 8 ≤ length h)
-entry-inside h i s g = let o = sound-ordered h s in (omega (arith, o .few), o .long, omega (arith, entry-held h i s g .inside))
+entry-inside h i s g = let o = sound-ordered h s in (omega (arith, o .few), o .long, omega (arith, entry-held h s i g .inside))
 
 pub slot-under : (h : List ℕ) (t i : ℕ) → sound h ≡ true → slotOf h t ≡ At i → i < get16 h 0
 slot-under h t i s e = slot-at h t i (sound-ordered h s) e .0

@@ -18,7 +18,7 @@ use Rattle.home.specs.Cases.{Holds}
 use Rattle.home.specs.Capacities.{cells, classOf}
 use Rattle.home.specs.CapacitiesLaws.{cells-pos}
 use Rattle.home.specs.Zones.{Block, Zone, zone, blocks, hasTag, find, takeOut, rewritten, settle, change as changeBy}
-use Rattle.home.specs.Layout.{change}
+use Rattle.home.specs.Layout.{change, Loose}
 use Rattle.home.specs.FindLaws.{Lacks, has-skip}
 use Rattle.home.specs.PermLaws.{plength}
 use Rattle.home.specs.TakeLaws.{Taken, TakenOut, takeOut-taken, takeOut-valid}
@@ -27,14 +27,13 @@ use Rattle.home.specs.EditsLaws.{changed as holds-changed, free-any}
 use Rattle.home.specs.HomeLaws.{all-mem}
 use Rattle.home.specs.Bytes.{encode, decode, blockBytes, cellAt}
 use Rattle.home.specs.Sound.{sound, pagesOf, listOf}
-use Rattle.home.specs.SoundLaws.{sound-encode}
+use Rattle.home.specs.SoundLaws.{sound-encode, sound-small, sound-some, sound-valid}
 use Rattle.moves.specs.StepLaws.{home-list-set}
-use Rattle.moves.specs.Stored.{settled, Loose}
-use Rattle.moves.specs.CloseLaws.{decode-loose, pages-loose}
+use Rattle.moves.specs.Stored.{settled}
 use Rattle.home.specs.Afresh.{justBefore}
 use Rattle.home.specs.AfreshLaws.{change-settles}
 use Rattle.home.specs.Valid.{Proper}
-use Rattle.zones.specs.SoundLaws.{valid-loose, sound-small, sound-some, sound-valid}
+use Rattle.home.specs.EncodeLaws.{decode-loose, pages-loose, valid-loose}
 use Rattle.zones.specs.Known.{Known}
 use Rattle.zones.specs.KnownLaws.{rewritten-there}
 use Rattle.zones.specs.Place.{Placeable}
@@ -119,7 +118,7 @@ module _ (h : List ℕ) (t p n : ℕ) (l : Listed h t p n) where
     out = takeOut-valid cells classOf cells-pos t (8 * R) zs (sound-valid h (l .sound)) (listed-has h t p n l)
 
     pages : pagesOf h' ≡ R
-    pages = ap pagesOf q ∙ pages-loose R (sound-small h (l .sound)) left (valid-loose R left (out .valid))
+    pages = ap pagesOf q ∙ pages-loose R left (valid-loose R left (out .valid))
 
     zones : decode h' ≡ left
     zones = ap decode q ∙ decode-loose R (sound-small h (l .sound)) left (valid-loose R left (out .valid))

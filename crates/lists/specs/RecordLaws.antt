@@ -21,7 +21,7 @@ use Rattle.wire.specs.Bytes.{over, isSome}
 use Rattle.home.specs.Bytes.{encode, decode, blockBytes, cellAt, listAt}
 use Rattle.home.specs.Sound.{pagesOf, listOf}
 use Rattle.home.specs.Valid.{Proper}
-use Rattle.zones.specs.SoundLaws.{sound-valid}
+use Rattle.home.specs.SoundLaws.{sound-valid}
 use Rattle.zones.specs.BlockLaws.{Lying}
 use Rattle.lists.specs.Lists.{grown, shrunk, insertedHere, removedHere, setHere}
 use Rattle.lists.specs.ListsLaws.{rank-held, length-remove, insert-aside-is, remove-aside-is, insert-here-is, remove-here-is, set-here-is}

@@ -13,7 +13,7 @@ use Rattle.home.specs.Zones.{Block, Zone, empty, from, endOf}
 use Rattle.home.specs.Perm.{Perm, Pairs, single, after}
 use Rattle.home.specs.PermLaws.{psym, plength, pall, ppairs, pairs-head, pmap}
 use Rattle.home.specs.Valid.{Other}
-use Rattle.home.specs.Layout.{Sits, Fit}
+use Rattle.home.specs.Layout.{Sits, Fit, Loose}
 use Rattle.home.specs.FindLaws.{pdistinct}
 use Rattle.home.specs.Bytes.{Spot, row, spots, paint, Entry, entryOf, sorted, dictionary, padded, zoneEntries, area, encode, blockBytes}
 use Rattle.home.specs.BytesLaws.{chop, get32-front}
@@ -21,14 +21,14 @@ use Rattle.home.specs.AreaLaws.{Good, Apart, Reads, bytesOf, length-block, leng
 use Rattle.home.specs.HomeLaws.{get32-at}
 use Rattle.home.specs.DictionaryLaws.{Else, Below, sorted-perm, sorted-rising, perm-sorted, pairs-of}
 use Rattle.home.specs.EntriesLaws.{Small, small-entries}
+use Rattle.home.specs.JoinLaws.{join-length}
+use Rattle.home.specs.EncodeLaws.{state, Fine, ld, encode-state}
 use Rattle.moves.specs.Moves.{Movable, carried, zoned, moved}
-use Rattle.moves.specs.JoinLaws.{join-length}
 use Rattle.moves.specs.AreaLaws.{apart-sym, paint-perm, paint-gone}
 use Rattle.moves.specs.EntryLaws.{Parted, kept, sorted-one}
-use Rattle.moves.specs.StateLaws.{state, Fine, ld, state-zoned, state-movable, state-moved}
-use Rattle.moves.specs.HomeLaws.{encode-state}
+use Rattle.moves.specs.StateLaws.{state-zoned, state-movable, state-moved}
 use Rattle.moves.specs.SpotLaws.{spot}
-use Rattle.moves.specs.Stored.{endAfter, Loose}
+use Rattle.moves.specs.Stored.{endAfter}
 
 abbrev pub spotBlock : Spot → Block
 spotBlock s = s .block
@@ -80,7 +80,7 @@ module _ (R : ℕ) (small : R ≤ 1024) (es : List ℕ) (le : length es ≡ 120)
   spots-long ss k =
       let ds : List Entry = sorted (map entryOf ss) in
       let a : List ℕ = paint ss zeros in
-      join-length (length ds) es (padded ds) a le (ld es a le ds (spots-fine ss k)) ∙ omega (arith, length-paint ss zeros, lz)
+      join-length (length ds) es (padded ds) a le (ld ds (spots-fine ss k)) ∙ omega (arith, length-paint ss zeros, lz)
 
   pub spots-zoned : (ss : List Spot) → Kept R ss → (c f n : ℕ) → c < 30 → zoned (atSpots R es ss) c f n ≡ atSpots R (over es (4 * c) (bytes16 f ++ bytes16 n)) ss
   unfolding atSpots
@@ -138,7 +138,7 @@ module _ (R : ℕ) (small : R ≤ 1024) (es : List ℕ) (le : length es ≡ 120)
 
 pub encode-spots : (R : ℕ) → R ≤ 1024 → (zs : List Zone) → Loose R zs → encode R zs ≡ atSpots R (zoneEntries zs) (spots 0 zs)
 unfolding atSpots dictionary area
-encode-spots R small zs v = encode-state R small zs v
+encode-spots R small zs v = encode-state R zs v
 
 -- ---- blocks in the order of their cells
 

@@ -6,7 +6,8 @@ use lib.ListN.{take, drop, getD}
 use Rattle.home.specs.Capacities.{cells}
 use Rattle.home.specs.Zones.{Zone, empty, from, lowered, endOf, close}
 use Rattle.home.specs.Bytes.{encode}
-use Rattle.moves.specs.Stored.{endAfter, Loose}
+use Rattle.home.specs.Layout.{Loose}
+use Rattle.moves.specs.Stored.{endAfter}
 
 -- zone c as low as it goes above e
 unfoldable pub lowest : ℕ → ℕ → Zone → Zone

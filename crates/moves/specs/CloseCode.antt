@@ -14,9 +14,10 @@ use Rattle.home.specs.Zones.{Zone}
 use Rattle.home.specs.EndLaws.{zone-fits}
 use Rattle.home.specs.Layout.{Fit}
 use Rattle.home.specs.AreaLaws.{fit-le}
-use Rattle.moves.specs.LooseLaws.{zone-at, length-loose, fit-above}
+use Rattle.home.specs.EncodeLaws.{length-loose, decode-loose, pages-loose}
+use Rattle.moves.specs.LooseLaws.{zone-at, fit-above}
 use Rattle.moves.specs.Close.{Open, lowBytes, lowEnd, closedBytes}
-use Rattle.moves.specs.CloseLaws.{Turned, zone-turned, zone-low, decode-loose, pages-loose, Closed, zone-closed, all-closed}
+use Rattle.moves.specs.CloseLaws.{Turned, zone-turned, zone-low, Closed, zone-closed, all-closed}
 
 pub end-small : (f n k : ℕ) → f < 65536 → n < 65536 → k ≤ 990 → f + n * k < 4294967296
 end-small f n k a b c = omega (arith, zone-fits n k b c)
@@ -40,11 +41,11 @@ open-small R h zs c e o =
     omega (arith, o .pages, o .end, fit-le (8 * R) (length (take c zs)) (endAfter 0 0 (take c zs)) (drop c zs) k)
 
 pub open-long : (R : ℕ) (h : List ℕ) (zs : List Zone) (c e : ℕ) → Open R h zs c e → length h ≡ 1664 + 64 * R
-open-long R h zs c e o = ap length (o .bytes) ∙ length-loose R (o .pages) zs (o .loose)
+open-long R h zs c e o = ap length (o .bytes) ∙ length-loose R zs (o .loose)
 
 -- an open layout is the one that its bytes hold
 pub open-decoded : (R : ℕ) (h : List ℕ) (zs : List Zone) (c e : ℕ) → Open R h zs c e → (pagesOf h ≡ R) × (decode h ≡ zs)
-open-decoded R h zs c e o = (ap pagesOf (o .bytes) ∙ pages-loose R (o .pages) zs (o .loose), ap decode (o .bytes) ∙ decode-loose R (o .pages) zs (o .loose))
+open-decoded R h zs c e o = (ap pagesOf (o .bytes) ∙ pages-loose R zs (o .loose), ap decode (o .bytes) ∙ decode-loose R (o .pages) zs (o .loose))
 
 module _ (h₀ h : List ℕ) (c e f n k : ℕ) (l : Lowering h₀ h c e f n k) where
   turn : e + k ≤ f → Turned (pagesOf h) h (decode h) c e f n

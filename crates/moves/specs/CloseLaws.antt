@@ -6,47 +6,24 @@ use native.Mathlib.Omega.{arith}
 use native.Mathlib.Nat.{mul-le-mul-left}
 use lib.ListN.{length, drop, take-append-drop, drop-of-length-le, take}
 use borrow.Author.Tests.{le-leb, lt-leb}
-use Rattle.wire.specs.Bytes.{part}
 use Rattle.wire.specs.Cases.{by-lt}
-use Rattle.wire.specs.All.{All, all-map, all-head}
+use Rattle.wire.specs.All.{all-head}
 use Rattle.home.specs.Capacities.{cells}
 use Rattle.home.specs.CapacitiesLaws.{cells-pos}
 use Rattle.home.specs.Zones.{Block, Zone, empty, from, lowered, lastOf, initOf, endOf, blocks, close}
 use Rattle.home.specs.Perm.{Perm, ptrans}
 use Rattle.home.specs.PermLaws.{psym, pright, protate, pall, prefl}
-use Rattle.home.specs.Layout.{Sits, Fit}
-use Rattle.home.specs.Bytes.{Spot, row, spots, dictionary, padded, zoneEntries, area, encode, decode, cellAt, firstAt, manyAt, zonesFrom}
-use Rattle.home.specs.Sound.{pagesOf}
-use Rattle.home.specs.AreaLaws.{Good, Reads, spots-good, area-reads}
-use Rattle.home.specs.HomeLaws.{zones-back, ReadsAt}
-use Rattle.moves.specs.JoinLaws.{join-part}
-use Rattle.moves.specs.StateLaws.{ld}
-use Rattle.moves.specs.HomeLaws.{length-zones, fine, encode-state}
+use Rattle.home.specs.Layout.{Sits, Fit, Loose}
+use Rattle.home.specs.Bytes.{Spot, row, spots, encode, cellAt, firstAt, manyAt}
+use Rattle.home.specs.AreaLaws.{Good, spots-good}
+use Rattle.home.specs.EncodeLaws.{length-loose}
 use Rattle.moves.specs.Moves.{Movable, zoned, moved}
 use Rattle.moves.specs.SpotLaws.{spot, in-context, init-last, length-init, lower-before}
 use Rattle.moves.specs.StepLaws.{firstOf, manyOf, home-lowered}
-use Rattle.moves.specs.LooseLaws.{length-loose, entries-loose, zone-at, movable, fit-lower, fit-above, loose-joined}
-use Rattle.moves.specs.Stored.{endAfter, Loose}
+use Rattle.moves.specs.LooseLaws.{zone-at, movable, fit-lower, fit-above, loose-joined}
+use Rattle.moves.specs.Stored.{endAfter}
 use Rattle.moves.specs.AtLaws.{at-zone, take-here, drop-next, zone-here, take-next, drop-here, end-next}
 use Rattle.moves.specs.Close.{lowest, zoneOf, lowBytes, lowEnd, Open, closedBytes}
-
--- ---- the layout read back
-
-module _ (R : ℕ) (small : R ≤ 1024) (zs : List Zone) (v : Loose R zs) where
-  part-area : (i n : ℕ) → part (encode R zs) (cellAt i) n ≡ part (area (8 * R) zs) (8 * i) n
-  part-area i n = ap (λ (h : List ℕ). part h (cellAt i) n) (encode-state R small zs v)
-      ∙ join-part (length (dictionary zs)) (zoneEntries zs) (padded (dictionary zs)) (area (8 * R) zs) (length-zones R small zs v)
-      (ld (zoneEntries zs) (area (8 * R) zs) (length-zones R small zs v) (dictionary zs) (fine R small zs v)) (8 * i) n
-
-  pub reads-loose : All (ReadsAt (encode R zs)) (spots 0 zs)
-  reads-loose = all-map {P = Reads (area (8 * R) zs)} {Q = ReadsAt (encode R zs)} (λ s r. part-area (s .cell) (8 * cells (s .class)) ∙ r) (area-reads (8 * R) zs (v .fit))
-
-  pub decode-loose : decode (encode R zs) ≡ zs
-  unfolding decode
-  decode-loose = ap (zonesFrom (encode R zs) 0) (sym (v .classes)) ∙ zones-back (8 * R) 0 0 zs (encode R zs) (v .fit) (entries-loose R small zs v) reads-loose
-
-  pub pages-loose : pagesOf (encode R zs) ≡ R
-  pages-loose = omega (arith, length-loose R small zs v)
 
 -- ---- lowering
 
@@ -137,7 +114,7 @@ turned-at R h ls f x xs hs e o g b =
     let was : Perm (spots 0 (ls ++ z ∷ hs)) (spot c p y ∷ (spots 0 ls ++ ss)) = in-context ls (z ∷ hs) (spot c p y) ss (lower-before c f x xs hs) in
     let good : Good (8 * R) (spot c p y) = all-head (pall (Good (8 * R)) was (spots-good (8 * R) 0 0 (ls ++ z ∷ hs) (o .loose .fit))) in
     let inside : p + k ≤ 8 * R = good .inside in
-    let long : length h ≡ 1664 + 64 * R = ap length (o .bytes) ∙ length-loose R (o .pages) (ls ++ z ∷ hs) (o .loose) in
+    let long : length h ≡ 1664 + 64 * R = ap length (o .bytes) ∙ length-loose R (ls ++ z ∷ hs) (o .loose) in
     record {
       movable = subst (λ (q : ℕ). Movable h q) (sym same) (subst (λ (l : List ℕ). Movable l p) (sym (o .bytes)) (movable R (o .pages) (ls ++ z ∷ hs) (o .loose) (spot c p y) (spots 0 ls ++ ss) was));
       old = omega (arith, mul-le-mul-left (length xs) (cells-pos c));

@@ -10,20 +10,19 @@ use Rattle.home.specs.Capacities.{cells}
 use Rattle.home.specs.Zones.{Block, Zone}
 use Rattle.home.specs.Perm.{Perm, pswap, ptrans, Pairs}
 use Rattle.home.specs.PermLaws.{prefl, pall, ppairs, pairs-tail, all-left, all-right, pmap}
-use Rattle.home.specs.Layout.{Sits}
-use Rattle.home.specs.Bytes.{Spot, spots, Entry, entryOf, sorted, dictionary, padded, zoneEntries, area, encode, blockBytes, cellAt}
+use Rattle.home.specs.Layout.{Sits, Loose}
+use Rattle.home.specs.Bytes.{Spot, spots, Entry, entryOf, sorted, dictionary, zoneEntries, area, encode, blockBytes, cellAt}
 use Rattle.home.specs.BytesLaws.{chop, get32-front}
 use Rattle.home.specs.AreaLaws.{Reads, bytesOf, spots-sit, area-reads}
-use Rattle.home.specs.HomeLaws.{get32-at, length-entries, length-dictionary}
+use Rattle.home.specs.HomeLaws.{get32-at}
 use Rattle.home.specs.DictionaryLaws.{Else, Below, dictionary-rising, dictionary-perm, else-sym, sorted-perm, sorted-rising, rising-else}
-use Rattle.home.specs.EntriesLaws.{Small, dictionary-small}
+use Rattle.home.specs.EntriesLaws.{Small}
+use Rattle.home.specs.EncodeLaws.{state, Fine, length-zones, fine, encode-state}
 use Rattle.moves.specs.Moves.{Movable, carried, zoned, moved, entered, unentered}
-use Rattle.moves.specs.JoinLaws.{join}
 use Rattle.moves.specs.AreaLaws.{area-gone, area-added, area-moved, area-filled, area-rewritten}
 use Rattle.moves.specs.EntryLaws.{Parted, kept, sorted-one}
-use Rattle.moves.specs.StateLaws.{state, Fine, state-zoned, state-written, state-moved, state-movable, state-entered, state-unentered}
+use Rattle.moves.specs.StateLaws.{state-zoned, state-written, state-moved, state-movable, state-entered, state-unentered}
 use Rattle.moves.specs.SpotLaws.{spot}
-use Rattle.moves.specs.Stored.{Loose}
 
 -- one entry fewer
 fine-less : (pre : List Entry) (x : Entry) (post : List Entry) → Fine (pre ++ x ∷ post) → Fine (pre ++ post)
@@ -36,19 +35,6 @@ fine-less pre x post ok =
 -- ---- a layout's bytes as its parts
 
 module _ (R : ℕ) (small : R ≤ 1024) (zs : List Zone) (v : Loose R zs) where
-  pub length-zones : length (zoneEntries zs) ≡ 120
-  length-zones = length-entries zs ∙ omega (arith, v .classes)
-
-  pub fine : Fine (dictionary zs)
-  fine = record {
-    few = omega (arith, v .few, length-dictionary zs);
-    small = dictionary-small R zs small (v .fit);
-  }
-
-  pub encode-state : encode R zs ≡ state (zoneEntries zs) (dictionary zs) (area (8 * R) zs)
-  unfolding encode join
-  encode-state = ap (λ (n : ℕ). join n (zoneEntries zs) (padded (dictionary zs)) (area (8 * R) zs)) (sym (length-dictionary zs))
-
   -- the tags of its blocks, in any order
   pub others : (ss : List Spot) → Perm (spots 0 zs) ss → Pairs Else (map entryOf ss)
   others ss p = ppairs Else else-sym (ptrans (dictionary-perm zs) (pmap entryOf p)) (rising-else (dictionary zs) (dictionary-rising zs (v .distinct)))
@@ -74,15 +60,15 @@ module _ (R : ℕ) (small : R ≤ 1024) (zs : List Zone) (v : Loose R zs) where
   fine-without s ss p =
       let x : Entry = entryOf s in
       let t : Parted (x .tag) (sorted (map entryOf ss)) = kept x (map entryOf ss) (others (s ∷ ss) p) in
-      subst Fine (sym (t .is)) (fine-less (t .pre) x (t .post) (subst Fine (dictionary-as (s ∷ ss) p ∙ sorted-one x (map entryOf ss) t) fine))
+      subst Fine (sym (t .is)) (fine-less (t .pre) x (t .post) (subst Fine (dictionary-as (s ∷ ss) p ∙ sorted-one x (map entryOf ss) t) (fine R small zs v)))
 
   pub unentered-state : (s : Spot) (ss : List Spot) → Perm (spots 0 zs) (s ∷ ss) → unentered (encode R zs) (s .block .tag) ≡ state (zoneEntries zs) (sorted (map entryOf ss)) (area (8 * R) zs)
   unentered-state s ss p =
       let x : Entry = entryOf s in
       let t : Parted (x .tag) (sorted (map entryOf ss)) = kept x (map entryOf ss) (others (s ∷ ss) p) in
       let d : dictionary zs ≡ t .pre ++ x ∷ t .post = dictionary-as (s ∷ ss) p ∙ sorted-one x (map entryOf ss) t in
-      ap (λ (h : List ℕ). unentered h (x .tag)) (encode-state ∙ ap (λ (y : List Entry). state (zoneEntries zs) y (area (8 * R) zs)) d)
-      ∙ state-unentered (zoneEntries zs) length-zones (t .pre) (t .post) (area (8 * R) zs) (x .tag) (t .low) (t .high) x refl (subst Fine d fine)
+      ap (λ (h : List ℕ). unentered h (x .tag)) (encode-state R zs v ∙ ap (λ (y : List Entry). state (zoneEntries zs) y (area (8 * R) zs)) d)
+      ∙ state-unentered (zoneEntries zs) (length-zones R zs v) (t .pre) (t .post) (area (8 * R) zs) (x .tag) (t .low) (t .high) x refl (subst Fine d (fine R small zs v))
       ∙ ap (λ (y : List Entry). state (zoneEntries zs) y (area (8 * R) zs)) (sym (t .is))
 
   -- b's entry is out: y's among the others
@@ -112,7 +98,7 @@ module _ (R : ℕ) (small : R ≤ 1024) (zs : List Zone) (v : Loose R zs) where
   movable-without n q p b y r was =
       let m : Without n q p b y r = without n q p b y r was in
       subst (λ (h : List ℕ). Movable h p) (sym (m .bytes))
-      (state-movable (zoneEntries zs) length-zones (m .parted .pre) (m .parted .post) (area (8 * R) zs) (y .tag) (m .parted .low) (m .parted .high) (entryOf (spot n p y)) p refl (m .fine) (m .rising) (m .bears))
+      (state-movable (zoneEntries zs) (length-zones R zs v) (m .parted .pre) (m .parted .post) (area (8 * R) zs) (y .tag) (m .parted .low) (m .parted .high) (entryOf (spot n p y)) p refl (m .fine) (m .rising) (m .bears))
 
 -- ---- one block changed, and zone c's entry set
 
@@ -124,13 +110,13 @@ module _ (R : ℕ) (small : R ≤ 1024) (zs zs' : List Zone) (v : Loose R zs) (v
   a = area (8 * R) zs
 
   le : length es ≡ 120
-  le = length-zones R small zs v
+  le = length-zones R zs v
 
   module _ (c f k : ℕ) (g : c < 30) (set : over (zoneEntries zs) (4 * c) (bytes16 f ++ bytes16 k) ≡ zoneEntries zs') where
     -- the last store: zone c's entry
     zone-set : (ds : List Entry) (a' : List ℕ) → dictionary zs' ≡ ds → area (8 * R) zs' ≡ a' → encode R zs' ≡ zoned (state es ds a') c f k
     zone-set ds a' d e =
-        encode-state R small zs' v'
+        encode-state R zs' v'
         ∙ ap₂ (λ (x : List Entry) (y : List ℕ). state (zoneEntries zs') x y) d e
         ∙ ap (λ (x : List ℕ). state x ds a') (sym set)
         ∙ sym (state-zoned es a' le ds (subst Fine d (fine R small zs' v')) c f k g)
@@ -146,7 +132,7 @@ module _ (R : ℕ) (small : R ≤ 1024) (zs zs' : List Zone) (v : Loose R zs) (v
         let d' : dictionary zs' ≡ t .pre ++ x' ∷ t .post = dictionary-as R small zs' v' (spot (s .class) q (s .block) ∷ ss) p' ∙ sorted-one x' xs t in
         zone-set (t .pre ++ x' ∷ t .post) (carried a (8 * s .cell) (8 * q) (8 * cells (s .class))) d' (area-moved (8 * R) zs zs' (v .fit) (v' .fit) s q ss p p')
         ∙ ap (λ (h : List ℕ). zoned h c f k)
-        (sym (ap (λ (h : List ℕ). moved h (s .class) (s .cell) q) (encode-state R small zs v ∙ ap (λ (y : List Entry). state es y a) d)
+        (sym (ap (λ (h : List ℕ). moved h (s .class) (s .cell) q) (encode-state R zs v ∙ ap (λ (y : List Entry). state es y a) d)
         ∙ state-moved es le (t .pre) (t .post) a (x .tag) (t .low) (t .high) x (s .class) (s .cell) q refl (subst Fine d (fine R small zs v)) (area-bears R small zs v s ss p)))
 
     pub home-added : (s : Spot) → Perm (spots 0 zs') (s ∷ spots 0 zs)
@@ -162,7 +148,7 @@ module _ (R : ℕ) (small : R ≤ 1024) (zs zs' : List Zone) (v : Loose R zs) (v
         let ok' : Fine (t .pre ++ x ∷ t .post) = subst Fine d' (fine R small zs' v') in
         zone-set (t .pre ++ x ∷ t .post) a' d' (area-added (8 * R) zs zs' (v .fit) (v' .fit) s p)
         ∙ ap (λ (h : List ℕ). zoned h c f k)
-        (sym (ap (λ (h : List ℕ). entered (over h (cellAt (s .cell)) (bytesOf s)) (x .tag) (x .cell)) (encode-state R small zs v ∙ ap (λ (y : List Entry). state es y a) (t .is))
+        (sym (ap (λ (h : List ℕ). entered (over h (cellAt (s .cell)) (bytesOf s)) (x .tag) (x .cell)) (encode-state R zs v ∙ ap (λ (y : List Entry). state es y a) (t .is))
         ∙ ap (λ (h : List ℕ). entered h (x .tag) (x .cell)) (state-written es a le (t .pre ++ t .post) ok (s .cell) (bytesOf s))
         ∙ state-entered es le (t .pre) (t .post) a' (x .tag) (t .low) (t .high) (x .cell) ok (omega (arith, ok' .few, length-append (t .pre) (x ∷ t .post), length-append (t .pre) (t .post)))))
 
@@ -195,7 +181,7 @@ module _ (R : ℕ) (small : R ≤ 1024) (zs zs' : List Zone) (v : Loose R zs) (v
   home-rewritten n p b b' ss q set was is =
       let d : dictionary zs' ≡ dictionary zs = dictionary-as R small zs' v' (spot n p b' ∷ ss) is
       ∙ ap (λ (t : ℕ). sorted (record { tag = t; cell = p } ∷ map entryOf ss)) (sym q) ∙ sym (dictionary-as R small zs v (spot n p b ∷ ss) was) in
-      encode-state R small zs' v'
+      encode-state R zs' v'
       ∙ ap₂ (λ (x : List Entry) (y : List ℕ). state (zoneEntries zs') x y) d (area-rewritten (8 * R) zs zs' (v .fit) (v' .fit) n p b b' ss was is)
       ∙ ap (λ (x : List ℕ). state x (dictionary zs) (over a (8 * p) (blockBytes n b'))) (sym set)
-      ∙ sym (ap (λ (h : List ℕ). over h (cellAt p) (blockBytes n b')) (encode-state R small zs v) ∙ state-written es a le (dictionary zs) (fine R small zs v) p (blockBytes n b'))
+      ∙ sym (ap (λ (h : List ℕ). over h (cellAt p) (blockBytes n b')) (encode-state R zs v) ∙ state-written es a le (dictionary zs) (fine R small zs v) p (blockBytes n b'))

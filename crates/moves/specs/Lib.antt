@@ -1,6 +1,5 @@
 pub mod Moves
 pub mod MovesLaws
-pub mod JoinLaws
 pub mod SpotLaws
 pub mod AreaLaws
 pub mod EntryLaws

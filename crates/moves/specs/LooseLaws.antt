@@ -1,10 +1,11 @@
 -- Layouts that are valid but for their gaps: their zones and entries read off the bytes, and zones exchanged.
 use mathlib.Core.Path.{_≡_, refl, sym, ap, _∙_, subst}
+use mathlib.Core.Bool.{true}
 use mathlib.Core.List.{List, [], _∷_, _++_, map, append-assoc}
 use Prim.Native.Nat.{ℕ, zero, suc, _+_, _*_, _≤_, _<_}
 use native.Mathlib.Omega.{arith}
 use lib.Dec.{leb}
-use lib.ListN.{length, getD, replicate, length-append}
+use lib.ListN.{length, getD, length-append}
 use borrow.Author.Tests.{leb-true, leb-false}
 use Rattle.home.specs.Capacities.{cells}
 use Rattle.home.specs.CapacitiesLaws.{cells-mono}
@@ -12,21 +13,21 @@ use Rattle.home.specs.Zones.{Block, Zone, empty, from, zone, blocks, lifted, en
 use Rattle.home.specs.Perm.{Perm, pnil, pskip, ptrans, Pairs, after}
 use Rattle.home.specs.PermLaws.{prefl, psym, pleft, pright, protate, plength, pall, ppairs}
 use Rattle.home.specs.Valid.{Other}
-use Rattle.home.specs.Layout.{Sits, Fit}
+use Rattle.home.specs.Layout.{Sits, Fit, Loose}
 use Rattle.home.specs.Cases.{by-pick, Holds, holds-map}
 use Rattle.home.specs.PlaceLaws.{length-snoc}
-use Rattle.home.specs.Bytes.{Spot, spots, Entry, entryOf, sorted, dictionary, padded, zoneEntries, area, encode, decode, firstAt, manyAt}
-use Rattle.home.specs.Sound.{pagesOf}
-use Rattle.home.specs.AreaLaws.{length-area}
-use Rattle.home.specs.HomeLaws.{Entries, entries-read, encode-entries}
+use Rattle.home.specs.Bytes.{Spot, spots, Entry, entryOf, sorted, dictionary, zoneEntries, area, encode, decode, firstAt, manyAt}
+use Rattle.home.specs.Sound.{sound, pagesOf}
+use Rattle.home.specs.SoundLaws.{encode-decode, sound-small, sound-loose}
+use Rattle.home.specs.HomeLaws.{Entries}
 use Rattle.home.specs.DictionaryLaws.{Below, dictionary-rising}
+use Rattle.home.specs.EncodeLaws.{state, Fine, length-zones, fine, encode-state, entries-loose, length-loose}
 use Rattle.moves.specs.Moves.{Movable}
-use Rattle.moves.specs.JoinLaws.{join-length}
 use Rattle.moves.specs.EntryLaws.{Parted, kept, sorted-one}
-use Rattle.moves.specs.StateLaws.{state, Fine, ld, state-movable}
+use Rattle.moves.specs.StateLaws.{state-movable}
 use Rattle.moves.specs.StepLaws.{firstOf, manyOf}
-use Rattle.moves.specs.Stored.{Stored, endAfter, Loose}
-use Rattle.moves.specs.HomeLaws.{length-zones, fine, encode-state, area-bears, others, dictionary-as}
+use Rattle.moves.specs.Stored.{Stored, endAfter}
+use Rattle.moves.specs.HomeLaws.{area-bears, others, dictionary-as}
 
 -- ---- zones' entries
 
@@ -48,28 +49,24 @@ module _ (R : ℕ) (small : R ≤ 1024) (zs : List Zone) (v : Loose R zs) where
   abbrev ds : List Entry
   ds = dictionary zs
 
-  pub length-loose : length (encode R zs) ≡ 1664 + 64 * R
-  length-loose = ap length (encode-state R small zs v)
-      ∙ join-length (length ds) es (padded ds) a (length-zones R small zs v) (ld es a (length-zones R small zs v) ds (fine R small zs v)) ∙ omega (arith, length-area (8 * R) zs)
-
-  pub entries-loose : Entries (encode R zs) 0 zs
-  entries-loose = entries-read (8 * R) 0 0 zs (encode R zs) (replicate 6 0 ++ (padded (dictionary zs) ++ area (8 * R) zs)) (omega arith) (v .fit) (encode-entries R zs)
-
   pub zone-at : (c : ℕ) → c < 30 → (firstAt (encode R zs) c ≡ firstOf (getD zs c empty)) × (manyAt (encode R zs) c ≡ manyOf (getD zs c empty))
-  zone-at c g = let e : 0 + c ≡ c = omega arith in rw e at (entry-at (encode R zs) 0 zs c entries-loose (omega (arith, v .classes)))
+  zone-at c g = let e : 0 + c ≡ c = omega arith in rw e at (entry-at (encode R zs) 0 zs c (entries-loose R small zs v) (omega (arith, v .classes)))
 
   pub movable : (s : Spot) (ss : List Spot) → Perm (spots 0 zs) (s ∷ ss) → Movable (encode R zs) (s .cell)
   movable s ss p =
-      let le : length es ≡ 120 = length-zones R small zs v in
+      let le : length es ≡ 120 = length-zones R zs v in
       let ok = fine R small zs v in
       let x : Entry = entryOf s in
       let k : Parted (x .tag) (sorted (map entryOf ss)) = kept x (map entryOf ss) (others R small zs v (s ∷ ss) p) in
       let d : ds ≡ k .pre ++ x ∷ k .post = dictionary-as R small zs v (s ∷ ss) p ∙ sorted-one x (map entryOf ss) k in
-      subst (λ (h : List ℕ). Movable h (s .cell)) (sym (encode-state R small zs v ∙ ap (λ (l : List Entry). state es l a) d))
+      subst (λ (h : List ℕ). Movable h (s .cell)) (sym (encode-state R zs v ∙ ap (λ (l : List Entry). state es l a) d))
       (state-movable es le (k .pre) (k .post) a (x .tag) (k .low) (k .high) x (s .cell) refl (subst Fine d ok) (subst (Pairs Below) d (dictionary-rising zs (v .distinct))) (area-bears R small zs v s ss p))
 
+pub sound-stored : (h : List ℕ) → sound h ≡ true → Stored h
+sound-stored h t = record { pages = sound-small h t; bytes = sym (encode-decode h t); loose = sound-loose h t }
+
 pub stored-long : (h : List ℕ) → Stored h → length h ≡ 1664 + 64 * pagesOf h
-stored-long h s = ap length (s .bytes) ∙ length-loose (pagesOf h) (s .pages) (decode h) (s .loose)
+stored-long h s = ap length (s .bytes) ∙ length-loose (pagesOf h) (decode h) (s .loose)
 
 pub zone-is : (h : List ℕ) → Stored h → (c : ℕ) → c < 30 → (firstAt h c ≡ firstOf (getD (decode h) c empty)) × (manyAt h c ≡ manyOf (getD (decode h) c empty))
 zone-is h s c g =

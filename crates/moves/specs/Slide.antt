@@ -7,8 +7,8 @@ use lib.ListN.{take, drop}
 use Rattle.home.specs.Zones.{Zone, based}
 use Rattle.home.specs.Bytes.{encode, decode, firstAt, manyAt}
 use Rattle.home.specs.Sound.{pagesOf}
+use Rattle.home.specs.Layout.{Loose}
 use Rattle.moves.specs.Close.{zoneOf}
-use Rattle.moves.specs.Stored.{Loose}
 
 -- zone c from cell `to` on
 abbrev pub rebased : List Zone → ℕ → ℕ → List Zone

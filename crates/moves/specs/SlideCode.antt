@@ -10,22 +10,22 @@ use lib.ListN.{length}
 use Rattle.wire.specs.Bytes.{over, bytes16}
 use Rattle.home.specs.Capacities.{cells}
 use Rattle.home.specs.Zones.{Zone, empty, from, based}
-use Rattle.home.specs.Layout.{Fit}
+use Rattle.home.specs.Layout.{Fit, Loose}
 use Rattle.home.specs.Bytes.{spots, zoneEntries, encode, decode, cellAt, firstAt, manyAt}
 use Rattle.home.specs.Sound.{pagesOf}
 use Rattle.home.specs.AreaLaws.{fit-le}
+use Rattle.home.specs.EncodeLaws.{length-zones, length-loose}
 use Rattle.moves.specs.Moves.{Movable, zoned, moved}
-use Rattle.moves.specs.HomeLaws.{length-zones}
 use Rattle.moves.specs.StepLaws.{firstOf, manyOf, zone-set}
-use Rattle.moves.specs.LooseLaws.{zone-at, length-loose, fit-above}
-use Rattle.moves.specs.Stored.{endAfter, Loose}
+use Rattle.moves.specs.LooseLaws.{zone-at, fit-above}
+use Rattle.moves.specs.Stored.{endAfter}
 use Rattle.moves.specs.AtLaws.{at-zone, zone-here}
 use Rattle.moves.specs.AtSpotsLaws.{atSpots, spots-zoned, encode-spots}
 use Rattle.moves.specs.Slide.{rebased, Slides, slid, Going}
 use Rattle.moves.specs.SlideLaws.{Here, startingAt, halfBytes, Reach, half-none, half-all, half-moves, rebased-at, loose-kept}
 
 pub slides-long : (R : ℕ) (h : List ℕ) (zs : List Zone) (c to : ℕ) → Slides R h zs c to → length h ≡ 1664 + 64 * R
-slides-long R h zs c to o = ap length (o .bytes) ∙ length-loose R (o .pages) zs (o .loose)
+slides-long R h zs c to o = ap length (o .bytes) ∙ length-loose R zs (o .loose)
 
 slides-read : (R : ℕ) (h : List ℕ) (ls : List Zone) (z : Zone) (hs : List Zone) (to : ℕ) → Slides R h (ls ++ z ∷ hs) (length ls) to → (firstAt h (length ls) ≡ firstOf z) × (manyAt h (length ls) ≡ manyOf z)
 slides-read R h ls z hs to o =
@@ -158,7 +158,7 @@ module _ (R : ℕ) (zs : List Zone) (h : List ℕ) (c to p q i n k : ℕ) (s : S
       (subst (λ (d : ℕ). over (zoneEntries (z .lower ++ from (z .first) (z .head) (z .tail) ∷ z .higher)) (4 * d) (bytes16 to ++ bytes16 n) ≡ zoneEntries zs') (z .class)
       (zone-set (z .lower) (from (z .first) (z .head) (z .tail)) (from to (z .head) (z .tail)) (z .higher) to n refl (sym (s .many)))) in
       ap (λ (l : List ℕ). zoned l c to n) e
-      ∙ spots-zoned R (z .pages) (zoneEntries zs) (length-zones R (z .pages) zs (z .loose)) (spots 0 zs') (loose-kept R zs' (s .next)) c to n (z .under)
+      ∙ spots-zoned R (z .pages) (zoneEntries zs) (length-zones R zs (z .loose)) (spots 0 zs') (loose-kept R zs' (s .next)) c to n (z .under)
       ∙ ap (λ (l : List ℕ). atSpots R l (spots 0 zs')) set ∙ sym (encode-spots R (z .pages) zs' (s .next)) ∙ ap (encode R) (sym (s .there))
 
   ends : q + n * k ≤ 8192

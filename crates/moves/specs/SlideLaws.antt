@@ -10,15 +10,15 @@ use Rattle.home.specs.Zones.{Block, Zone, from, blocks, based}
 use Rattle.home.specs.Perm.{Perm, Pairs, ptrans}
 use Rattle.home.specs.PermLaws.{pleft, pright, pfront, all-left, all-right}
 use Rattle.home.specs.Valid.{Other}
-use Rattle.home.specs.Layout.{Sits, Fit}
+use Rattle.home.specs.Layout.{Sits, Fit, Loose}
 use Rattle.home.specs.Bytes.{Spot, row, spots, zoneEntries, cellAt}
 use Rattle.home.specs.AreaLaws.{spots-sit, row-sits}
 use Rattle.home.specs.DictionaryLaws.{row-blocks, spots-blocks}
+use Rattle.home.specs.EncodeLaws.{length-zones}
 use Rattle.moves.specs.Moves.{Movable, moved}
-use Rattle.moves.specs.HomeLaws.{length-zones}
 use Rattle.moves.specs.SpotLaws.{spot, spots-in, gone-before}
 use Rattle.moves.specs.LooseLaws.{fit-above, blocks-append}
-use Rattle.moves.specs.Stored.{endAfter, Loose}
+use Rattle.moves.specs.Stored.{endAfter}
 use Rattle.moves.specs.AtLaws.{take-here, drop-next, zone-here}
 use Rattle.moves.specs.Slide.{rebased}
 use Rattle.moves.specs.AtSpotsLaws.{spotBlock, SitsAt, atSpots, Kept, kept-perm, spots-perm, spots-long, spots-movable, spots-moved, lined-lower, lined-append, row-lined, spots-lined, below-lined, kept-lined}
@@ -136,7 +136,7 @@ module _ (R : ℕ) (zs : List Zone) (c : ℕ) (z : Here R zs c) where
   es = zoneEntries zs
 
   le : length es ≡ 120
-  le = length-zones R (z .pages) zs (z .loose)
+  le = length-zones R zs (z .loose)
 
   -- with zone c from another cell on
   abbrev pub startingAt : ℕ → List Zone

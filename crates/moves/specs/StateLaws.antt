@@ -1,6 +1,6 @@
 -- Home's bytes of any zone entries, dictionary and area, and what the moves make of them.
 use mathlib.Core.Path.{_≡_, sym, ap, ap₂, _∙_, subst}
-use mathlib.Core.List.{List, _∷_, _++_, append-assoc}
+use mathlib.Core.List.{List, _∷_, _++_}
 use Prim.Native.Nat.{ℕ, suc, _+_, _*_, _-_, _≤_, _<_}
 use native.Mathlib.Omega.{arith}
 use native.Mathlib.Numerals.{add-one}
@@ -9,26 +9,15 @@ use Rattle.wire.specs.Bytes.{part, over, get16, get32, bytes16, bytes32}
 use Rattle.wire.specs.BytesLaws.{length-part, length-over, length-bytes16}
 use Rattle.wire.specs.All.{All, more, all-map}
 use Rattle.home.specs.Capacities.{cells}
-use Rattle.home.specs.Bytes.{Entry, padded, entriesBytes, cellAt, entriesAt}
+use Rattle.home.specs.Bytes.{Entry, padded, cellAt}
 use Rattle.home.specs.Perm.{Pairs}
 use Rattle.home.specs.DictionaryLaws.{Below}
-use Rattle.home.specs.HomeLaws.{length-padded}
 use Rattle.home.specs.Lookup.{Ordered, indexOf}
 use Rattle.home.specs.LookupLaws.{rising-at}
-use Rattle.home.specs.EntriesLaws.{Small, entries-back}
+use Rattle.home.specs.JoinLaws.{join, join-length, join-area, join-entry, join-zone, join-count, join-part, join-words, join-bears}
+use Rattle.home.specs.EncodeLaws.{state, Fine, ld, state-tags, state-entries}
 use Rattle.moves.specs.Moves.{carried, Movable, celled, entered, unentered, zoned, moved}
-use Rattle.moves.specs.JoinLaws.{join, join-length, join-area, join-entry, join-zone, join-count, join-part, join-words, join-tags, join-bears, join-dictionary}
 use Rattle.moves.specs.EntryLaws.{rank, rank-entries, rank-at, word, length-word, padded-celled, padded-entered, padded-unentered}
-
--- ---- zone entries es, dictionary ds, area a
-
-abbrev pub state : List ℕ → List Entry → List ℕ → List ℕ
-state es ds a = join (length ds) es (padded ds) a
-
--- at most 256 entries, each of which fits its bytes
-pub record Fine (ds : List Entry) : Type 0 where
-  pub few : length ds ≤ 256
-  pub small : All Small ds
 
 entered-at : (h : List ℕ) (t p n i : ℕ) → get16 h 0 ≡ n → indexOf h t ≡ i
     → entered h t p ≡ over (over (over h (128 + 6 * i + 6) (part h (128 + 6 * i) (6 * (n - i)))) (128 + 6 * i) (bytes32 t ++ bytes16 p)) 0 (bytes16 (n + 1))
@@ -40,47 +29,34 @@ unentered-at : (h : List ℕ) (t n i : ℕ) → get16 h 0 ≡ n → indexOf h t 
 unfolding unentered
 unentered-at h t n i a b = rw (← a, ← b)
 
-module _ (es a : List ℕ) (le : length es ≡ 120) where
-  module _ (ds : List Entry) (ok : Fine ds) where
-    pub ld : length (padded ds) ≡ 1536
-    ld = length-padded ds (ok .few)
+module _ (es a : List ℕ) (le : length es ≡ 120) (ds : List Entry) (ok : Fine ds) where
+  pub state-index : (t : ℕ) → indexOf (state es ds a) t ≡ rank t ds
+  state-index t = rank-entries (state es ds a) t 0 (get16 (state es ds a) 0) ∙ ap (rank t) (state-entries es a le ds ok)
 
-    pub state-tags : get16 (state es ds a) 0 ≡ length ds
-    state-tags = join-tags (length ds) es (padded ds) a le ld (omega (arith, ok .few))
+  pub state-ordered : Pairs Below ds → Ordered (state es ds a)
+  state-ordered r = record {
+    few = omega (arith, state-tags es a le ds ok, ok .few);
+    long = omega (arith, join-length (length ds) es (padded ds) a le (ld ds ok));
+    rise = λ i j b c. rising-at (state es ds a) 0 (get16 (state es ds a) 0) i j (subst (Pairs Below) (sym (state-entries es a le ds ok)) r) (omega arith) b (omega arith);
+  }
 
-    pub state-entries : entriesAt (state es ds a) 0 (get16 (state es ds a) 0) ≡ ds
-    unfolding padded
-    state-entries = ap (entriesAt (state es ds a) 0) state-tags
-        ∙ entries-back (state es ds a) 0 ds (replicate (1536 - 6 * length ds) 0 ++ a)
-        (join-dictionary (length ds) es (padded ds) a le ld ∙ append-assoc (entriesBytes ds) (replicate (1536 - 6 * length ds) 0) a) (ok .small)
+  pub state-zoned : (c f k : ℕ) → c < 30 → zoned (state es ds a) c f k ≡ state (over es (4 * c) (bytes16 f ++ bytes16 k)) ds a
+  unfolding zoned
+  state-zoned c f k g = join-zone (length ds) es (padded ds) a le (ld ds ok) (4 * c) (bytes16 f ++ bytes16 k)
+      (rw length-append (omega (arith, length-bytes16 f, length-bytes16 k)))
 
-    pub state-index : (t : ℕ) → indexOf (state es ds a) t ≡ rank t ds
-    state-index t = rank-entries (state es ds a) t 0 (get16 (state es ds a) 0) ∙ ap (rank t) state-entries
+  pub state-written : (p : ℕ) (bs : List ℕ) → over (state es ds a) (cellAt p) bs ≡ state es ds (over a (8 * p) bs)
+  state-written p bs = join-area (length ds) es (padded ds) a le (ld ds ok) (8 * p) bs
 
-    pub state-ordered : Pairs Below ds → Ordered (state es ds a)
-    state-ordered r = record {
-      few = omega (arith, state-tags, ok .few);
-      long = omega (arith, join-length (length ds) es (padded ds) a le ld);
-      rise = λ i j b c. rising-at (state es ds a) 0 (get16 (state es ds a) 0) i j (subst (Pairs Below) (sym state-entries) r) (omega arith) b (omega arith);
-    }
+  pub state-carried : (p q n : ℕ) → carried (state es ds a) (cellAt p) (cellAt q) n ≡ state es ds (carried a (8 * p) (8 * q) n)
+  unfolding carried
+  state-carried p q n =
+      ap (over (over (state es ds a) (cellAt p) (replicate n 0)) (cellAt q)) (join-part (length ds) es (padded ds) a le (ld ds ok) (8 * p) n)
+      ∙ ap (λ (l : List ℕ). over l (cellAt q) (part a (8 * p) n)) (join-area (length ds) es (padded ds) a le (ld ds ok) (8 * p) (replicate n 0))
+      ∙ join-area (length ds) es (padded ds) (over a (8 * p) (replicate n 0)) le (ld ds ok) (8 * q) (part a (8 * p) n)
 
-    pub state-zoned : (c f k : ℕ) → c < 30 → zoned (state es ds a) c f k ≡ state (over es (4 * c) (bytes16 f ++ bytes16 k)) ds a
-    unfolding zoned
-    state-zoned c f k g = join-zone (length ds) es (padded ds) a le ld (4 * c) (bytes16 f ++ bytes16 k)
-        (rw length-append (omega (arith, length-bytes16 f, length-bytes16 k)))
-
-    pub state-written : (p : ℕ) (bs : List ℕ) → over (state es ds a) (cellAt p) bs ≡ state es ds (over a (8 * p) bs)
-    state-written p bs = join-area (length ds) es (padded ds) a le ld (8 * p) bs
-
-    pub state-carried : (p q n : ℕ) → carried (state es ds a) (cellAt p) (cellAt q) n ≡ state es ds (carried a (8 * p) (8 * q) n)
-    unfolding carried
-    state-carried p q n =
-        ap (over (over (state es ds a) (cellAt p) (replicate n 0)) (cellAt q)) (join-part (length ds) es (padded ds) a le ld (8 * p) n)
-        ∙ ap (λ (l : List ℕ). over l (cellAt q) (part a (8 * p) n)) (join-area (length ds) es (padded ds) a le ld (8 * p) (replicate n 0))
-        ∙ join-area (length ds) es (padded ds) (over a (8 * p) (replicate n 0)) le ld (8 * q) (part a (8 * p) n)
-
-    pub state-bears : (p : ℕ) → get32 (state es ds a) (cellAt p) ≡ get32 a (8 * p)
-    state-bears p = join-bears (length ds) es (padded ds) a le ld (8 * p)
+  pub state-bears : (p : ℕ) → get32 (state es ds a) (cellAt p) ≡ get32 a (8 * p)
+  state-bears p = join-bears (length ds) es (padded ds) a le (ld ds ok) (8 * p)
 
 -- ---- one entry among lower and higher ones
 
@@ -97,7 +73,7 @@ module _ (es : List ℕ) (le : length es ≡ 120) (pre post : List Entry) where
       let i : ℕ = length pre in
       let e : 128 + 6 * i + 4 ≡ 128 + (6 * i + 4) = omega arith in
       ap (λ (k : ℕ). over (state es (pre ++ x ∷ post) a) k (bytes16 (x' .cell))) e
-      ∙ join-entry (length (pre ++ x ∷ post)) es (padded (pre ++ x ∷ post)) a le (ld es a le (pre ++ x ∷ post) ok) (6 * i + 4) (bytes16 (x' .cell))
+      ∙ join-entry (length (pre ++ x ∷ post)) es (padded (pre ++ x ∷ post)) a le (ld (pre ++ x ∷ post) ok) (6 * i + 4) (bytes16 (x' .cell))
       (omega (arith, ok .few, longer x, long, length-bytes16 (x' .cell)))
       ∙ ap₂ (λ (k : ℕ) (l : List ℕ). join k es l a) (longer x ∙ sym (longer x')) (padded-celled pre post x x' q)
 
@@ -133,7 +109,7 @@ module _ (es : List ℕ) (le : length es ≡ 120) (pre post : List Entry) where
         let ds : List Entry = pre ++ post in
         let n : ℕ = length ds in
         let i : ℕ = length pre in
-        let l : length (padded ds) ≡ 1536 = ld es a le ds ok in
+        let l : length (padded ds) ≡ 1536 = ld ds ok in
         let k : ℕ = 6 * (n - i) in
         let e : 128 + 6 * i + 6 ≡ 128 + (6 * i + 6) = omega arith in
         let b : i + length post ≡ n = sym long in
@@ -156,7 +132,7 @@ module _ (es : List ℕ) (le : length es ≡ 120) (pre post : List Entry) where
         let ds : List Entry = pre ++ x ∷ post in
         let n : ℕ = length ds in
         let i : ℕ = length pre in
-        let l : length (padded ds) ≡ 1536 = ld es a le ds ok in
+        let l : length (padded ds) ≡ 1536 = ld ds ok in
         let few : n ≤ 256 = ok .few in
         let k : ℕ = 6 * (n - (i + 1)) in
         let e : 128 + 6 * i + 6 ≡ 128 + (6 * i + 6) = omega arith in

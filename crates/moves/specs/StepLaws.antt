@@ -13,10 +13,10 @@ use Rattle.home.specs.PermLaws.{prefl, pright, pfront}
 use Rattle.home.specs.Bytes.{Spot, row, spots, zoneEntries, encode, blockBytes, cellAt}
 use Rattle.home.specs.HomeLaws.{length-entries}
 use Rattle.home.specs.DictionaryLaws.{zone-spots}
+use Rattle.home.specs.Layout.{Loose}
 use Rattle.moves.specs.Moves.{zoned, moved, entered, unentered}
 use Rattle.moves.specs.SpotLaws.{spot, spots-in, in-context, liftedTo, liftedFirst, lifted-spots, added-spots, length-init, lower-before, lower-after, gone-before, fill-before, fill-after}
 use Rattle.moves.specs.HomeLaws.{home-moved, home-added, home-gone, home-filled, home-rewritten}
-use Rattle.moves.specs.Stored.{Loose}
 
 -- ---- a zone's entry
 

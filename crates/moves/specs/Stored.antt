@@ -2,24 +2,14 @@
 use mathlib.Core.Path.{_≡_}
 use mathlib.Core.Option.{Option, none, some}
 use mathlib.Core.List.{List, [], _∷_}
-use Prim.Native.Nat.{ℕ, suc, _*_, _≤_}
-use lib.ListN.{length}
+use Prim.Native.Nat.{ℕ, suc, _≤_}
 use Rattle.home.specs.Capacities.{cells}
-use Rattle.home.specs.Zones.{Zone, endOf, blocks}
-use Rattle.home.specs.Perm.{Pairs}
-use Rattle.home.specs.Valid.{Other}
-use Rattle.home.specs.Layout.{Fit}
+use Rattle.home.specs.Zones.{Zone, endOf}
+use Rattle.home.specs.Layout.{Loose}
 use Rattle.home.specs.Bytes.{encode, decode}
 use Rattle.home.specs.Sound.{pagesOf}
 
--- a layout that is valid but for its gaps
-pub record Loose (R : ℕ) (zs : List Zone) : Type 0 where
-  pub classes : length zs ≡ 30
-  pub fit : Fit (8 * R) 0 0 zs
-  pub distinct : Pairs Other (blocks zs)
-  pub few : length (blocks zs) ≤ 256
-
--- its bytes
+-- the bytes of a layout that is valid but for its gaps
 pub record Stored (h : List ℕ) : Type 0 where
   pub pages : pagesOf h ≤ 1024
   pub bytes : h ≡ encode (pagesOf h) (decode h)

@@ -16,8 +16,9 @@ use Rattle.merges.specs.Merging.{merge}
 use Rattle.records.specs.Edits.{decode-encode}
 use Rattle.home.specs.EditsLaws.{valid-listed}
 use Rattle.home.specs.HomeLaws.{all-mem}
-use Rattle.home.specs.Sound.{Sound, sound, listOf}
-use Rattle.home.specs.SoundLaws.{t-sound, sound-zones}
+use Rattle.home.specs.Bytes.{decode as zonesIn}
+use Rattle.home.specs.Sound.{pagesOf, sound, listOf}
+use Rattle.home.specs.SoundLaws.{sound-valid}
 use Rattle.home.specs.declared.Answer.{Answer}
 use Rattle.home.specs.declared.Answer.the-variants.{Count, Refused}
 use Rattle.home.specs.Valid.{Proper}
@@ -30,9 +31,7 @@ use Rattle.reads.specs.Merges.{written, mergeIn}
 -- lists of a sound home are rising and their values fit
 pub sound-listed : (h : List ℕ) (t : ℕ) → sound h ≡ true → Proper (listOf h t)
 unfolding listOf
-sound-listed h t e =
-    let s : Sound h = t-sound h .says e in
-    rw (sound-zones h s) (valid-listed (8 * s .pages) t (s .zones) (s .valid))
+sound-listed h t e = valid-listed (8 * pagesOf h) t (zonesIn h) (sound-valid h e)
 
 pub list-reads : (h : List ℕ) (t : ℕ) (bs : List ℕ) → sound h ≡ true → bs ≡ encode (listOf h t) → decode bs ≡ listOf h t
 list-reads h t bs e f = ap decode f ∙ decode-encode (listOf h t) (all-mem (listOf h t) (sound-listed h t e .fits))

@@ -13,18 +13,19 @@ use Rattle.home.specs.Capacities.{cells}
 use Rattle.home.specs.CapacitiesLaws.{cells-mono}
 use Rattle.home.specs.Zones.{Block, Zone, empty, from, blocks, lifted, endOf, shift}
 use Rattle.home.specs.PermLaws.{prefl, pleft}
-use Rattle.home.specs.Layout.{Fit}
+use Rattle.home.specs.Layout.{Fit, Loose}
 use Rattle.home.specs.Cases.{Holds, map-twice, map-same}
 use Rattle.home.specs.PlaceLaws.{length-snoc}
 use Rattle.home.specs.Bytes.{Spot, row, spots, encode, decode, cellAt, firstAt, manyAt, endAt}
 use Rattle.home.specs.EndLaws.{end-none, end-some}
 use Rattle.home.specs.Sound.{pagesOf}
 use Rattle.home.specs.AreaLaws.{fit-le}
+use Rattle.home.specs.EncodeLaws.{length-loose}
 use Rattle.moves.specs.Moves.{Movable, zoned, moved}
 use Rattle.moves.specs.SpotLaws.{spot, in-context, liftedTo, liftedFirst}
 use Rattle.moves.specs.StepLaws.{firstOf, manyOf, class-below, home-lifted}
-use Rattle.moves.specs.Stored.{Stored, endAfter, Loose}
-use Rattle.moves.specs.LooseLaws.{movable, zone-at, zone-is, length-loose, fit-lower, fit-above, loose-joined, Shifted, shift-fit}
+use Rattle.moves.specs.Stored.{Stored, endAfter}
+use Rattle.moves.specs.LooseLaws.{movable, zone-at, zone-is, fit-lower, fit-above, loose-joined, Shifted, shift-fit}
 use Rattle.moves.specs.AtLaws.{zone-here, joined, long-next, end-next, end-of}
 use Rattle.seats.specs.Seat.{cellFor, firstWith, endFrom, displaced, raised, Stacked}
 use Rattle.seats.specs.SeatLaws.{cell-none, cell-some, first-none, first-some}
@@ -120,7 +121,7 @@ module _ (R : ℕ) (small : R ≤ 1024) where
 
   -- so its zones lie one behind the other
   stacked-layout : (hs ls : List Zone) → Loose R (ls ++ hs) → Stacked (length hs) (encode R (ls ++ hs)) (length ls) (endAfter 0 0 ls)
-  stacked-layout [] ls v = omega (arith, length-loose R small (ls ++ []) v, fit-le (8 * R) (length ls) (endAfter 0 0 ls) [] (fit-above (8 * R) 0 0 (length ls) ls [] (omega arith) (v .fit)))
+  stacked-layout [] ls v = omega (arith, length-loose R (ls ++ []) v, fit-le (8 * R) (length ls) (endAfter 0 0 ls) [] (fit-above (8 * R) 0 0 (length ls) ls [] (omega arith) (v .fit)))
   stacked-layout (z ∷ hs) ls v = (
     head-here ls z hs v,
     subst (λ (e : ℕ). Stacked (length hs) (encode R (ls ++ z ∷ hs)) (suc (length ls)) e) (end-passed R small ls z hs v ∙ sym (end-here R small ls z hs v (endAfter 0 0 ls)))
@@ -206,8 +207,8 @@ module _ (R : ℕ) (small : R ≤ 1024) where
   unfolding raised shift firstOf manyOf
   raised-layout [] ls e v lo hi =
       by-lt (8 * R) e
-      (λ g. rw (lt-leb (cellAt e) (length (encode R (ls ++ []))) (omega (arith, length-loose R small (ls ++ []) v)), lt-leb e (8 * R) g))
-      (λ g. rw (le-leb (cellAt e) (length (encode R (ls ++ []))) (omega (arith, length-loose R small (ls ++ []) v)), le-leb e (8 * R) g))
+      (λ g. rw (lt-leb (cellAt e) (length (encode R (ls ++ []))) (omega (arith, length-loose R (ls ++ []) v)), lt-leb e (8 * R) g))
+      (λ g. rw (le-leb (cellAt e) (length (encode R (ls ++ []))) (omega (arith, length-loose R (ls ++ []) v)), le-leb e (8 * R) g))
   raised-layout (empty ∷ hs) ls e v lo hi =
       let p : endAfter 0 0 (ls ++ empty ∷ []) ≡ endAfter 0 0 ls = end-passed R small ls empty hs v in
       let g : cells (length ls) ≤ cells (length (ls ++ empty ∷ [])) = rw (long-next ls empty hs) (cells-mono (length ls)) in

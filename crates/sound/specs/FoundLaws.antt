@@ -28,9 +28,10 @@ use Rattle.sound.specs.Checks.{blockFine, blocksFine, zoneFine, zonesFin
 use Rattle.home.specs.PermLaws.{all-left, all-right, map-in}
 use Rattle.home.specs.BytesLaws.{chop, get32-small, records-fit, bytes16-read, bytes32-read}
 use Rattle.home.specs.AreaLaws.{laid-fit, Clean}
-use Rattle.home.specs.HomeLaws.{ReadsAt, ZeroAt, length-spots, encode-area, length-encode-home, encode-reads, encode-clean}
+use Rattle.home.specs.HomeLaws.{ReadsAt, ZeroAt, length-spots}
 use Rattle.home.specs.SoundLaws.{Sized, t-sized}
 use Rattle.home.specs.DictionaryLaws.{Else, Below, dictionary-of, distinct-tags, zone-spots}
+use Rattle.home.specs.EncodeLaws.{area-loose, clean-loose, length-loose, reads-loose, valid-loose}
 
 -- a part in two
 split : (l : List ℕ) (at m n at' : ℕ) → at + m ≡ at' → part l at (m + n) ≡ part l at m ++ part l at' n
@@ -351,7 +352,7 @@ checked-sound h b t =
     let e : 1536 ≡ 6 * n + (1536 - 6 * n) = omega arith in
     ap (part h 128) e ∙ split h 128 (6 * n) (1536 - 6 * n) (128 + 6 * n) refl
     ∙ ap₂ (λ (x y : List ℕ). x ++ y) (sym (entries-again h 0 n b (omega arith))) (blank-part h (128 + 6 * n) (1536 - 6 * n) (omega arith) (t6 .1) ∙ ap (λ (m : ℕ). replicate (1536 - 6 * m) 0) (sym ld)) in
-    let end : length (encode R zs) ≡ cellAt (8 * R) = omega (arith, length-encode-home R zs v) in
+    let end : length (encode R zs) ≡ cellAt (8 * R) = omega (arith, length-loose R zs (valid-loose R zs v)) in
     record {
       pages = R;
       low = z .low;
@@ -359,5 +360,5 @@ checked-sound h b t =
       zones = zs;
       valid = v;
       bytes = home-of R zs h (sym (bytes16-read h 0 b (omega arith)) ∙ ap bytes16 (sym many)) (sym (f .written)) (blank-part h 122 6 (omega arith) (t3 .0)) (dict ∙ ap padded (sym (i .0)))
-          (zones-same h (encode R zs) (8 * R) long end 0 0 zs (laid-fit (8 * R) 0 0 zs (f .laid)) (f .reads) (encode-reads R zs v) (f .clean) (encode-clean R zs v) ∙ encode-area R zs v);
+          (zones-same h (encode R zs) (8 * R) long end 0 0 zs (laid-fit (8 * R) 0 0 zs (f .laid)) (f .reads) (reads-loose R zs (valid-loose R zs v)) (f .clean) (clean-loose R zs (valid-loose R zs v)) ∙ area-loose R zs (valid-loose R zs v));
     }

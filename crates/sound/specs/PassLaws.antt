@@ -27,10 +27,11 @@ use Rattle.sound.specs.Checks.{blockFine, blocksFine, zoneFine, zonesFin
 use Rattle.home.specs.PermLaws.{all-left, all-right, in-map, in-all, all-in, pin}
 use Rattle.home.specs.BytesLaws.{part-join}
 use Rattle.home.specs.AreaLaws.{laid-fit, fit-le, spots-sit, Clean}
-use Rattle.home.specs.HomeLaws.{ReadsAt, ZeroAt, Entries, get16-at, block-count, block-tag, block-records, block-starts, length-entries, length-dictionary, length-entriesBytes, fit, length-encode-home, encode-reads, encode-clean, encode-reads-entries}
-use Rattle.home.specs.SoundLaws.{t-sized, sound-pages}
+use Rattle.home.specs.HomeLaws.{ReadsAt, ZeroAt, Entries, get16-at, block-count, block-tag, block-records, block-starts, length-entries, length-dictionary, length-entriesBytes}
+use Rattle.home.specs.SoundLaws.{sound-length, t-sized, sound-pages}
 use Rattle.home.specs.DictionaryLaws.{Below, dictionary-rising, dictionary-perm}
-use Rattle.home.specs.EntriesLaws.{Small, entry-tag, entry-cell, entry-rest, entry-small, tag-count, home-dictionary}
+use Rattle.home.specs.EntriesLaws.{Small, entry-tag, entry-cell, entry-rest}
+use Rattle.home.specs.EncodeLaws.{clean-loose, dictionary-loose, entries-loose, fine, reads-loose, tags-loose, valid-loose}
 
 yes : (a b : Bool) → a ≡ true → b ≡ true → a && b ≡ true
 yes a b p q = rw p q
@@ -169,12 +170,12 @@ module _ (R : ℕ) (zs : List Zone) (v : Valid (8 * R) zs) (small : R ≤ 1024) 
   entry-passes d i =
       let m = in-map entryOf d (spots 0 zs) (pin d (dictionary-perm zs) i) in
       let s : Spot = m .0 in
-      let f : Fit (8 * R) 0 0 zs = fit R zs v in
+      let f : Fit (8 * R) 0 0 zs = valid-loose R zs v .fit in
       let sit : Sits (s .class) (s .block) = all-in (λ (x : Spot). Sits (x .class) (x .block)) s (spots 0 zs) (spots-sit (8 * R) 0 0 zs f) (m .1) in
-      let reads : ReadsAt home s = all-in (ReadsAt home) s (spots 0 zs) (encode-reads R zs v) (m .1) in
+      let reads : ReadsAt home s = all-in (ReadsAt home) s (spots 0 zs) (reads-loose R zs (valid-loose R zs v)) (m .1) in
       subst (Passes home) (sym (m .2)) (record {
-        small = subst Small (m .2) (entry-small R zs v small d i);
-        leads = ap (λ (k : ℕ). leads home 0 k (s .cell)) (sym (v .classes)) ∙ leads-pass home 0 zs s (encode-reads-entries R zs v small) (m .1);
+        small = subst Small (m .2) (all-in Small d (dictionary zs) (fine R small zs (valid-loose R zs v) .small) i);
+        leads = ap (λ (k : ℕ). leads home 0 k (s .cell)) (sym (v .classes)) ∙ leads-pass home 0 zs s (entries-loose R small zs (valid-loose R zs v)) (m .1);
         bears = block-tag home (s .cell) (s .class) (s .block) (drop (cellAt (s .cell) + 8 * cells (s .class)) home) (block-starts home s reads) sit;
       })
 
@@ -189,7 +190,7 @@ module _ (R : ℕ) (zs : List Zone) (v : Valid (8 * R) zs) (small : R ≤ 1024) 
   home-rest =
       let n : ℕ = length (dictionary zs) in
       let z : ℕ = 1536 - 6 * n in
-      ap (take z) (sym (drop-drop (6 * n) 128 home) ∙ ap (drop (6 * n)) (home-dictionary R zs v small)
+      ap (take z) (sym (drop-drop (6 * n) 128 home) ∙ ap (drop (6 * n)) (dictionary-loose R small zs (valid-loose R zs v))
       ∙ drop-at (entriesBytes (dictionary zs)) (replicate z 0 ++ area (8 * R) zs) (6 * n) (length-entriesBytes (dictionary zs)))
       ∙ take-at (replicate z 0) (area (8 * R) zs) z (length-replicate z 0)
 
@@ -197,23 +198,23 @@ module _ (R : ℕ) (zs : List Zone) (v : Valid (8 * R) zs) (small : R ≤ 1024) 
   unfolding checked
   home-passes q t =
       let n : ℕ = length (dictionary zs) in
-      let c : get16 home 0 ≡ n = tag-count R zs v small ∙ sym (length-dictionary zs) in
-      let d : Entries home 0 zs = encode-reads-entries R zs v small in
+      let c : get16 home 0 ≡ n = tags-loose R small zs (valid-loose R zs v) ∙ sym (length-dictionary zs) in
+      let d : Entries home 0 zs = entries-loose R small zs (valid-loose R zs v) in
       let few : n ≤ 256 = omega (arith, length-dictionary zs, v .few) in
       yes (sized home) _ t
       (rw (q, c)
       (yes (leb n 256) _ (le-leb n 256 few)
       (yes (blank (part home 122 6)) _ (ap blank home-zeros ∙ blank-zeros 6)
-      (yes (zonesFine home (8 * R) 0 0 30) _ (ap (zonesFine home (8 * R) 0 0) (sym (v .classes)) ∙ zones-pass home (8 * R) 0 0 zs (v .laid) d (encode-reads R zs v) (encode-clean R zs v))
+      (yes (zonesFine home (8 * R) 0 0 30) _ (ap (zonesFine home (8 * R) 0 0) (sym (v .classes)) ∙ zones-pass home (8 * R) 0 0 zs (v .laid) d (reads-loose R zs (valid-loose R zs v)) (clean-loose R zs (valid-loose R zs v)))
       (yes (eqb (manyIn home 0 30) n) _ (eq-eqb (manyIn home 0 30) n (ap (manyIn home 0) (sym (v .classes)) ∙ many-pass home 0 zs d ∙ sym (length-dictionary zs)))
       (yes (tagsFine home 0 0 n) _
-      (tags-pass home 0 0 (dictionary zs) (replicate (1536 - 6 * n) 0 ++ area (8 * R) zs) (home-dictionary R zs v small) (in-all (Passes home) (dictionary zs) entry-passes) (dictionary-rising zs (v .distinct))
+      (tags-pass home 0 0 (dictionary zs) (replicate (1536 - 6 * n) 0 ++ area (8 * R) zs) (dictionary-loose R small zs (valid-loose R zs v)) (in-all (Passes home) (dictionary zs) entry-passes) (dictionary-rising zs (v .distinct))
       (in-all (λ (x : Entry). 0 ≤ x .tag) (dictionary zs) (λ x i. omega arith)))
       (ap blank home-rest ∙ blank-zeros (1536 - 6 * n))))))))
 
 pub sound-checked : (h : List ℕ) → Sound h → checked h ≡ true
 sound-checked h s =
     let p : pagesOf h ≡ s .pages = sound-pages h s in
-    let l : length h ≡ 64 * (26 + s .pages) = ap length (s .bytes) ∙ length-encode-home (s .pages) (s .zones) (s .valid) in
+    let l : length h ≡ 1664 + 64 * s .pages = sound-length h s in
     let t : sized h ≡ true = t-sized h .when (record { low = omega (arith, s .low); high = omega (arith, s .high); long = omega arith }) in
     rw (s .bytes) (home-passes (s .pages) (s .zones) (s .valid) (s .high) (ap pagesOf (sym (s .bytes)) ∙ p) (ap sized (sym (s .bytes)) ∙ t))

@@ -14,22 +14,21 @@ use Rattle.wire.specs.Bytes.{isSome}
 use Rattle.home.specs.Capacities.{cells, classOf}
 use Rattle.home.specs.CapacitiesLaws.{cells-mono, cells-pos}
 use Rattle.home.specs.Zones.{Block, Zone, empty, blocks, added, endOf, joined, total, afresh, layAfresh, settle}
-use Rattle.home.specs.Layout.{Valid}
+use Rattle.home.specs.Layout.{Valid, Loose}
 use Rattle.home.specs.Cases.{orElse, holds-some}
 use Rattle.home.specs.FindLaws.{lacks-has}
 use Rattle.home.specs.PlaceLaws.{Placed}
 use Rattle.home.specs.AfreshLaws.{afresh-length, afresh-blocks, laid-holds, fit-total}
 use Rattle.home.specs.Bytes.{encode, decode, firstAt, manyAt}
 use Rattle.home.specs.Sound.{pagesOf}
+use Rattle.home.specs.EncodeLaws.{decode-loose, pages-loose, valid-loose}
+use Rattle.home.specs.SoundLaws.{sound-valid}
 use Rattle.moves.specs.StepLaws.{firstOf, manyOf}
-use Rattle.moves.specs.LooseLaws.{blocks-append}
-use Rattle.moves.specs.Stored.{settled, endAfter, Stored, Loose}
-use Rattle.moves.specs.CloseLaws.{decode-loose, pages-loose}
+use Rattle.moves.specs.LooseLaws.{blocks-append, sound-stored}
+use Rattle.moves.specs.Stored.{settled, endAfter, Stored}
 use Rattle.moves.specs.Slide.{rebased, Slides, slid}
-use Rattle.zones.specs.SoundLaws.{sound-valid, valid-loose}
 use Rattle.zones.specs.Place.{blockIn, placedIn, Placeable, withBlock}
 use Rattle.moves.specs.LooseLaws.{zone-is}
-use Rattle.zones.specs.SoundLaws.{sound-stored}
 use Rattle.zones.specs.PlaceLaws.{Puts, puts-at, Fitting, fitting-under, fitting-sits, fitting-fits, fitting-bytes}
 use Rattle.zones.specs.Afresh.{lowerLaid, higherLaid, Layable, laidIn, settledIn}
 use Rattle.zones.specs.AfreshLaws.{Down, Up, Way, afresh-end, higher-loose, lower-next, lower-zone, zone-down, zone-up, lower-all, total-next, total-split, total-drop, zone-way, lay-some, lay-none}
@@ -38,7 +37,7 @@ use Rattle.zones.specs.AfreshLaws.{Down, Up, Way, afresh-end, higher-loo
 
 module _ (R : ℕ) (small : R ≤ 1024) (zs : List Zone) (v : Loose R zs) (h : List ℕ) (q : h ≡ encode R zs) where
   pages-are : pagesOf h ≡ R
-  pages-are = ap pagesOf q ∙ pages-loose R small zs v
+  pages-are = ap pagesOf q ∙ pages-loose R zs v
 
   zones-are : decode h ≡ zs
   zones-are = ap decode q ∙ decode-loose R small zs v

@@ -11,12 +11,12 @@ use Rattle.home.specs.CapacitiesLaws.{cells-pos}
 use Rattle.home.specs.Zones.{Block, Zone, empty, from, blocks, added, endOf, based, joined, total, afresh, layAfresh}
 use Rattle.home.specs.Perm.{Pairs}
 use Rattle.home.specs.Valid.{Other}
-use Rattle.home.specs.Layout.{Fit}
+use Rattle.home.specs.Layout.{Fit, Loose}
 use Rattle.home.specs.AreaLaws.{laid-fit}
 use Rattle.home.specs.AfreshLaws.{afresh-length, afresh-blocks, joined-total, fit-seated, afresh-laid}
 use Rattle.moves.specs.StepLaws.{firstOf, manyOf}
 use Rattle.moves.specs.LooseLaws.{fit-lower, fit-above, fit-joined, blocks-append}
-use Rattle.moves.specs.Stored.{endAfter, Loose}
+use Rattle.moves.specs.Stored.{endAfter}
 use Rattle.moves.specs.AtLaws.{at-zone, take-here, drop-here, take-next, drop-next, zone-here, end-next}
 use Rattle.moves.specs.Slide.{rebased}
 use Rattle.moves.specs.SlideLaws.{rebased-at}

@@ -12,26 +12,22 @@ use Rattle.home.specs.Capacities.{cells, classOf}
 use Rattle.home.specs.Zones.{Block, Zone, zone, blocks, hasTag}
 use Rattle.home.specs.Perm.{Perm, In, Pairs, after}
 use Rattle.home.specs.PermLaws.{prefl, psym, pall, pin, all-in, in-map, map-in}
-use Rattle.home.specs.Layout.{Sits}
+use Rattle.home.specs.Layout.{Sits, Loose}
 use Rattle.home.specs.FindLaws.{by-tag, has-here, has-skip}
-use Rattle.home.specs.Bytes.{Spot, row, spots, Entry, entryOf, dictionary, zoneEntries, area, blockBytes, cellAt, countAt, tagAt, entryCell, entriesAt, encode, decode}
+use Rattle.home.specs.Bytes.{Spot, row, spots, Entry, entryOf, blockBytes, cellAt, countAt, tagAt, entryCell, encode, decode}
 use Rattle.home.specs.AreaLaws.{Good, spots-sit, spots-good}
 use Rattle.home.specs.HomeLaws.{ReadsAt, block-tag, block-count, block-starts}
 use Rattle.home.specs.DictionaryLaws.{Else, spots-blocks, dictionary-perm}
 use Rattle.home.specs.Sound.{sound, pagesOf}
-use Rattle.home.specs.SoundLaws.{encode-decode}
+use Rattle.home.specs.SoundLaws.{sound-words, encode-decode, sound-small, sound-loose}
 use Rattle.home.specs.declared.lookup.Slot.the-variants.{At}
 use Rattle.home.specs.Lookup.{slotOf}
 use Rattle.home.specs.LookupLaws.{entry-in}
 use Rattle.home.specs.LookupLoopLaws.{sound-ordered, slot-at}
+use Rattle.home.specs.EncodeLaws.{length-loose, reads-loose}
 use Rattle.moves.specs.SpotLaws.{spot, gone-before}
-use Rattle.moves.specs.HomeLaws.{length-zones, fine, encode-state, others}
-use Rattle.moves.specs.StateLaws.{state-entries}
+use Rattle.moves.specs.HomeLaws.{others}
 use Rattle.moves.specs.StepLaws.{in-zone}
-use Rattle.moves.specs.LooseLaws.{length-loose}
-use Rattle.moves.specs.CloseLaws.{reads-loose}
-use Rattle.moves.specs.Stored.{Loose}
-use Rattle.zones.specs.SoundLaws.{sound-small, sound-loose}
 use Rattle.zones.specs.Known.{Located, Known}
 use Rattle.zones.specs.KnownLaws.{located}
 
@@ -50,10 +46,10 @@ module _ (R : ℕ) (small : R ≤ 1024) (zs : List Zone) (v : Loose R zs) where
       let sit : Sits (s .class) (s .block) = all-head (pall (λ (x : Spot). Sits (x .class) (x .block)) p (spots-sit (8 * R) 0 0 zs (v .fit))) in
       let good : Good (8 * R) s = all-head (pall (Good (8 * R)) p (spots-good (8 * R) 0 0 zs (v .fit))) in
       let rest : List ℕ = drop (cellAt (s .cell) + 8 * cells (s .class)) (encode R zs) in
-      let reads : ReadsAt (encode R zs) s = all-head (pall (ReadsAt (encode R zs)) p (reads-loose R small zs v)) in
+      let reads : ReadsAt (encode R zs) s = all-head (pall (ReadsAt (encode R zs)) p (reads-loose R zs v)) in
       record {
         sits = sit;
-        inside = omega (arith, good .inside, length-loose R small zs v);
+        inside = omega (arith, good .inside, length-loose R zs v);
         bytes = reads;
         tag = block-tag (encode R zs) (s .cell) (s .class) (s .block) rest (block-starts (encode R zs) s reads) sit;
         count = block-count (encode R zs) (s .cell) (s .class) (s .block) rest (block-starts (encode R zs) s reads) sit;
@@ -103,12 +99,6 @@ module _ (h : List ℕ) (s : sound h ≡ true) where
   is : h ≡ encode R zs
   is = sym (encode-decode h s)
 
-  entries-of : entriesAt h 0 (get16 h 0) ≡ dictionary zs
-  entries-of =
-      let v : Loose R zs = sound-loose h s in
-      subst (λ (l : List ℕ). entriesAt l 0 (get16 l 0) ≡ dictionary zs) (sym (is ∙ encode-state R (sound-small h s) zs v))
-      (state-entries (zoneEntries zs) (area (8 * R) zs) (length-zones R (sound-small h s) zs v) (dictionary zs) (fine R (sound-small h s) zs v))
-
   -- the block to which an entry leads is the first one with its tag
   module _ (t i : ℕ) (e : slotOf h t ≡ At i) where
     abbrev p : ℕ
@@ -118,7 +108,7 @@ module _ (h : List ℕ) (s : sound h ≡ true) where
     d = record { tag = tagAt h i; cell = p }
 
     led : In d (map entryOf (spots 0 zs))
-    led = pin d (dictionary-perm zs) (subst (In d) entries-of (entry-in h 0 (get16 h 0) i (omega arith) (omega (arith, slot-at h t i (sound-ordered h s) e .0))))
+    led = pin d (dictionary-perm zs) (subst (In d) (sound-words h s) (entry-in h 0 (get16 h 0) i (omega arith) (omega (arith, slot-at h t i (sound-ordered h s) e .0))))
 
     tagged : tagAt h i ≡ t
     tagged = slot-at h t i (sound-ordered h s) e .1

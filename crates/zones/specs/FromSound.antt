@@ -12,19 +12,20 @@ use Rattle.home.specs.Capacities.{cells, classOf}
 use Rattle.home.specs.CapacitiesLaws.{cells-mono, cells-pos, class-below as class-most}
 use Rattle.home.specs.Zones.{Block, Zone, blocks, added, endOf, shift, place}
 use Rattle.home.specs.PermLaws.{plength}
-use Rattle.home.specs.Layout.{Sits, Fit, Valid}
+use Rattle.home.specs.Layout.{Sits, Fit, Valid, Loose}
 use Rattle.home.specs.Cases.{Holds, map-twice}
 use Rattle.home.specs.FindLaws.{Lacks, lacks-has}
 use Rattle.home.specs.PlaceLaws.{place-valid}
 use Rattle.home.specs.Bytes.{encode, decode, firstAt, manyAt, blockBytes, endAt}
 use Rattle.home.specs.Sound.{pagesOf}
 use Rattle.home.specs.LookupLoopLaws.{sound-ordered}
-use Rattle.moves.specs.Stored.{Stored, endAfter, settled, Loose}
-use Rattle.moves.specs.LooseLaws.{stored-long, fit-lower, fit-above, blocks-append, loose-joined, Shifted, shift-fit}
+use Rattle.home.specs.EncodeLaws.{valid-loose}
+use Rattle.home.specs.SoundLaws.{sound-valid, sound-tags}
+use Rattle.moves.specs.Stored.{Stored, endAfter, settled}
+use Rattle.moves.specs.LooseLaws.{stored-long, fit-lower, fit-above, blocks-append, loose-joined, Shifted, shift-fit, sound-stored}
 use Rattle.moves.specs.AtLaws.{at-zone, take-here, joined, long-next}
 use Rattle.seats.specs.Seat.{cellFor, endFrom, raised, seated, Stacked}
 use Rattle.seats.specs.LayoutLaws.{end-here, loose-next, end-passed, raised-layout, stored-ends, stacked-stored}
-use Rattle.zones.specs.SoundLaws.{sound-valid, valid-loose, sound-stored, sound-tags}
 use Rattle.zones.specs.Place.{wholeBlock, withBlock, blockIn, placedFrom, From, placedIn, Placeable}
 use Rattle.zones.specs.PlaceLaws.{end-added, puts-at, Fitting, fitting-under, fitting-sits, fitting-fits, fitting-bytes}
 

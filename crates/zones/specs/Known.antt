@@ -9,9 +9,9 @@ use Rattle.wire.specs.Bytes.{pick, over}
 use Rattle.home.specs.Capacities.{cells}
 use Rattle.home.specs.Zones.{Block, Zone, empty, from, zone, blocks, hasTag, removed}
 use Rattle.home.specs.Bytes.{encode, cellAt}
+use Rattle.home.specs.Layout.{Loose}
 use Rattle.moves.specs.Moves.{moved}
 use Rattle.moves.specs.Close.{zoneOf}
-use Rattle.moves.specs.Stored.{Loose}
 
 -- tag t's first block in a layout, those before and behind it in its zone, that zone's first cell, and the lower and higher zones
 pub record Located (t : ℕ) (zs : List Zone) : Type 0 where

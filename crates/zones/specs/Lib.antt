@@ -1,4 +1,3 @@
-pub mod SoundLaws
 pub mod Known
 pub mod KnownLaws
 pub mod BlockLaws

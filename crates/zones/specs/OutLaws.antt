@@ -17,25 +17,25 @@ use Rattle.home.specs.PermLaws.{psym, pleft, pright, pfront, plength, pall, pai
 use Rattle.home.specs.FindLaws.{pdistinct}
 use Rattle.home.specs.TakeLaws.{turned-perm}
 use Rattle.home.specs.Valid.{Other}
-use Rattle.home.specs.Layout.{Sits, Fit}
+use Rattle.home.specs.Layout.{Sits, Fit, Loose}
 use Rattle.home.specs.Sound.{pagesOf}
 use Rattle.home.specs.Bytes.{row, spots, encode, decode, cellAt, firstAt, manyAt}
 use Rattle.home.specs.AreaLaws.{fit-le}
 use Rattle.home.specs.Lookup.{Ordered, indexOf}
+use Rattle.home.specs.EncodeLaws.{decode-loose, pages-loose, length-loose}
 use Rattle.moves.specs.Moves.{Movable, zoned, moved, unentered}
 use Rattle.moves.specs.SpotLaws.{spot}
 use Rattle.moves.specs.HomeLaws.{movable-without}
-use Rattle.moves.specs.Stored.{endAfter, Stored, Loose}
+use Rattle.moves.specs.Stored.{endAfter, Stored}
 use Rattle.seats.specs.Seat.{endFrom}
 use Rattle.seats.specs.LayoutLaws.{stored-ends}
 use Rattle.moves.specs.AtLaws.{take-here, take-next, drop-next, zone-here, end-next}
 use Rattle.moves.specs.Close.{zoneOf, closedBytes, Open}
-use Rattle.moves.specs.CloseLaws.{decode-loose, pages-loose}
 use Rattle.zones.specs.Known.{firstIf, Known, lacking, outBytes, filled}
 use Rattle.zones.specs.KnownLaws.{lacking-there, takeOut-there}
 use Rattle.zones.specs.BlockLaws.{Lying, known-spots, known-lying, others-of}
 use Rattle.moves.specs.StepLaws.{firstOf, manyOf, first-zone, many-zone, fill-spots, home-last-gone, home-place-filled}
-use Rattle.moves.specs.LooseLaws.{zone-at, zone-blocks, movable, length-loose, blocks-append, fit-above, fit-joined, fit-lower}
+use Rattle.moves.specs.LooseLaws.{zone-at, zone-blocks, movable, blocks-append, fit-above, fit-joined, fit-lower}
 
 -- the zone's other blocks: the last of those behind it first
 others : (pre : List Block) (b : Block) (post : List Block) → Perm (b ∷ (pre ++ turned post)) (pre ++ b ∷ post)
@@ -152,7 +152,7 @@ module _ (R : ℕ) (small : R ≤ 1024) (ls : List Zone) (f : ℕ) (pre : List B
       let l : length (pre ++ b ∷ post) ≡ suc n = length-append pre (b ∷ post) ∙ omega arith in
       let i : f + suc n * cells c ≤ 8 * R = subst (λ (k : ℕ). f + k * cells c ≤ 8 * R) l
       (zone-inside (8 * R) c (endAfter 0 0 ls) f (pre ++ b ∷ post) hs (omega arith) (fit-above (8 * R) 0 0 c ls (zone f (pre ++ b ∷ post) ∷ hs) (omega arith) (v .fit))) in
-      omega (arith, length-loose R small (was R ls f pre b post hs) v)
+      omega (arith, length-loose R (was R ls f pre b post hs) v)
 
 -- ---- what the code that takes a block out knows: f is its zone's first cell, n the number of the zone's other blocks
 
@@ -214,7 +214,7 @@ module _ (R : ℕ) (small : R ≤ 1024) (zs ls : List Zone) (f : ℕ) (pre : Lis
 -- the bytes of a layout
 pub stored : (R : ℕ) (h : List ℕ) (zs : List Zone) → R ≤ 1024 → h ≡ encode R zs → Loose R zs → Stored h
 stored R h zs small e v =
-    let q : pagesOf h ≡ R = ap pagesOf e ∙ pages-loose R small zs v in
+    let q : pagesOf h ≡ R = ap pagesOf e ∙ pages-loose R zs v in
     let z : decode h ≡ zs = ap decode e ∙ decode-loose R small zs v in
     record { pages = rw q small; bytes = e ∙ sym (ap₂ encode q z); loose = rw (q, z) v }
 
@@ -223,7 +223,7 @@ module _ (R : ℕ) (h : List ℕ) (zs : List Zone) (t c p : ℕ) (k : Known R h 
   known-class = omega (arith, k .class, ap length (k .found .is), length-append (k .found .lower) (zone (k .found .first) (k .found .before ++ k .found .block ∷ k .found .behind) ∷ k .found .higher), k .loose .classes)
 
   pub known-long : length h ≡ 1664 + 64 * R
-  known-long = ap length (k .bytes) ∙ length-loose R (k .pages) zs (k .loose)
+  known-long = ap length (k .bytes) ∙ length-loose R zs (k .loose)
 
   pub known-zone : (firstAt h c ≡ k .found .first) × (manyAt h c ≡ suc (length (k .found .before) + length (k .found .behind)))
   known-zone = zone-there R (k .pages) zs (k .found .lower) (k .found .first) (k .found .before) (k .found .block) (k .found .behind) (k .found .higher) h t c p (k .found .is) (k .bytes) (k .class) (k .cell) (k .found .tag) (k .found .none-before) (k .loose)
@@ -269,6 +269,6 @@ module _ (R : ℕ) (h : List ℕ) (zs : List Zone) (t c p : ℕ) (k : Known R h 
       pub out-taken : closedBytes (pagesOf h') (decode h') (c + 1) e ≡ encode R (takeOut cells t 0 0 zs)
       out-taken =
           let z : decode h' ≡ left = ap decode left-bytes ∙ decode-loose R (k .pages) left left-loose in
-          ap₂ (λ (n : ℕ) (l : List Zone). closedBytes n l (c + 1) e) (ap pagesOf left-bytes ∙ pages-loose R (k .pages) left left-loose) z
+          ap₂ (λ (n : ℕ) (l : List Zone). closedBytes n l (c + 1) e) (ap pagesOf left-bytes ∙ pages-loose R left left-loose) z
           ∙ out-closed R (k .pages) zs (k .found .lower) (k .found .first) (k .found .before) (k .found .block) (k .found .behind) (k .found .higher) h t c p (k .found .is) (k .bytes) (k .class) (k .cell) (k .found .tag) (k .found .none-before) (k .loose)
           e (k .found .none-lower) (closes-at ∙ ap (λ (l : List Zone). endAfter 0 0 (take (c + 1) l)) z)

@@ -15,7 +15,7 @@ use Rattle.records.specs.Edits.{length-encode, encode-decode as bytes-back}
 use Rattle.home.specs.Capacities.{capacity, cells, classOf}
 use Rattle.home.specs.CapacitiesLaws.{class-below as class-most, class-holds}
 use Rattle.home.specs.Zones.{Block, Zone, empty, from, blocks, added, endOf}
-use Rattle.home.specs.Layout.{Sits, Fit}
+use Rattle.home.specs.Layout.{Sits, Fit, Loose}
 use Rattle.home.specs.PlaceLaws.{length-snoc}
 use Rattle.home.specs.Lookup.{Ordered}
 use Rattle.home.specs.AreaLaws.{fit-le}
@@ -23,12 +23,12 @@ use Rattle.home.specs.HomeLaws.{length-dictionary}
 use Rattle.home.specs.DictionaryLaws.{dictionary-rising}
 use Rattle.home.specs.Bytes.{Entry, zoneEntries, dictionary, area, encode, cellAt, firstAt, manyAt, blockBytes}
 use Rattle.home.specs.BytesLaws.{records-fit}
+use Rattle.home.specs.EncodeLaws.{state, state-tags, length-zones, fine, encode-state, length-loose}
 use Rattle.moves.specs.Moves.{zoned, entered}
-use Rattle.moves.specs.StateLaws.{state, state-tags, state-ordered, state-written}
-use Rattle.moves.specs.HomeLaws.{length-zones, fine, encode-state}
+use Rattle.moves.specs.StateLaws.{state-ordered, state-written}
 use Rattle.moves.specs.StepLaws.{firstOf, manyOf, class-below, home-placed}
-use Rattle.moves.specs.Stored.{endAfter, Loose}
-use Rattle.moves.specs.LooseLaws.{zone-at, length-loose, fit-above}
+use Rattle.moves.specs.Stored.{endAfter}
+use Rattle.moves.specs.LooseLaws.{zone-at, fit-above}
 use Rattle.moves.specs.AtLaws.{zone-here}
 use Rattle.seats.specs.Seat.{firstWith}
 use Rattle.zones.specs.Place.{wholeBlock, RoomAt, withBlock, blockIn, Placeable}
@@ -94,13 +94,13 @@ module _ (R : ℕ) (small : R ≤ 1024) (zs : List Zone) (v : Loose R zs) (p : �
   a = over (area (8 * R) zs) (8 * p) bs
 
   written : over (encode R zs) (cellAt p) bs ≡ state es ds a
-  written = ap (λ (h : List ℕ). over h (cellAt p) bs) (encode-state R small zs v) ∙ state-written es (area (8 * R) zs) (length-zones R small zs v) ds (fine R small zs v) p bs
+  written = ap (λ (h : List ℕ). over h (cellAt p) bs) (encode-state R zs v) ∙ state-written es (area (8 * R) zs) (length-zones R zs v) ds (fine R small zs v) p bs
 
   written-ordered : Ordered (over (encode R zs) (cellAt p) bs)
-  written-ordered = subst Ordered (sym written) (state-ordered es a (length-zones R small zs v) ds (fine R small zs v) (dictionary-rising zs (v .distinct)))
+  written-ordered = subst Ordered (sym written) (state-ordered es a (length-zones R zs v) ds (fine R small zs v) (dictionary-rising zs (v .distinct)))
 
   written-tags : get16 (over (encode R zs) (cellAt p) bs) 0 ≡ length (blocks zs)
-  written-tags = ap (λ (h : List ℕ). get16 h 0) written ∙ state-tags es a (length-zones R small zs v) ds (fine R small zs v) ∙ length-dictionary zs
+  written-tags = ap (λ (h : List ℕ). get16 h 0) written ∙ state-tags es a (length-zones R zs v) ds (fine R small zs v) ∙ length-dictionary zs
 
 -- a block behind those of its zone, between layouts that are valid but for their gaps
 pub puts-at : (R : ℕ) → R ≤ 1024 → (t : ℕ) (bs : List ℕ) (ls : List Zone) (z : Zone) (hs : List Zone)
@@ -115,7 +115,7 @@ puts-at R small t bs ls z hs v v' few fits block =
     let p : ℕ = endOf cells c e z in
     let h : List ℕ = encode R (ls ++ z ∷ hs) in
     let g : c < 30 = class-below ls z hs (v .classes) in
-    let long : length h ≡ 1664 + 64 * R = length-loose R small (ls ++ z ∷ hs) v in
+    let long : length h ≡ 1664 + 64 * R = length-loose R (ls ++ z ∷ hs) v in
     let high : p + cells c ≤ 8 * R = omega (arith, end-added c e b z, fit-end (8 * R) c e (added e b z) hs (fit-above (8 * R) 0 0 c ls (added e b z ∷ hs) (omega arith) (v' .fit))) in
     let read : (firstAt h c ≡ firstOf z) × (manyAt h c ≡ manyOf z) =
     subst (λ (y : Zone). (firstAt h c ≡ firstOf y) × (manyAt h c ≡ manyOf y)) (zone-here ls z hs) (zone-at R small (ls ++ z ∷ hs) v c g) in

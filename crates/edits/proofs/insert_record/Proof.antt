@@ -5,7 +5,6 @@ use native.Mathlib.Omega.{arith}
 use borrow.Author.Tests.{not-true, not-false}
 use Rattle.home.specs.Capacities.{classOf}
 use Rattle.home.specs.CapacitiesLaws.{class-below, class-stays, class-leaves}
-use Rattle.zones.specs.SoundLaws.{sound-stored}
 use Rattle.lists.specs.ListedLaws.{listed-most}
 use Rattle.lists.specs.RecordLaws.{missing-under, in-inside, in-here}
 use Rattle.edits.specs.Edits.{fitsAfter}
@@ -17,6 +16,7 @@ use Rattle.edits.proofs.insert_record.Reads as reads
 use Rattle.edits.proofs.insert_record.Lts as lts
 use Rattle.home.proofs.classes.class_of.Reads as class-of-reads
 use Rattle.home.proofs.classes.capacity.Reads as capacity-reads
+use Rattle.moves.specs.LooseLaws.{sound-stored}
 use Rattle.lists.proofs.here.insert_here.Reads as insert-here-reads
 use Rattle.lists.proofs.change.insert_moving.Reads as insert-moving-reads
 use Rattle.edits.proofs.room_after.Reads as room-after-reads

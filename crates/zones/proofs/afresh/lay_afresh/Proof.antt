@@ -4,8 +4,7 @@ use Rattle.home.specs.Capacities.{cells}
 use Rattle.home.specs.Zones.{total}
 use Rattle.home.specs.Bytes.{decode}
 use Rattle.home.specs.Sound.{pagesOf}
-use Rattle.moves.specs.LooseLaws.{stored-long}
-use Rattle.zones.specs.SoundLaws.{sound-stored}
+use Rattle.moves.specs.LooseLaws.{stored-long, sound-stored}
 use Rattle.zones.specs.PlaceLaws.{Fitting, fitting-under}
 use Rattle.zones.specs.AfreshCode.{laying-none, laying-layable, laying-puts, laying-done}
 use borrow.Author.Needs.{needs}

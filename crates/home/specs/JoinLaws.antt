@@ -1,5 +1,5 @@
 -- Home's bytes as its five parts, and bytes written in one of them.
-use mathlib.Core.Path.{_≡_, sym, ap, _∙_}
+use mathlib.Core.Path.{_≡_, refl, sym, ap, _∙_}
 use mathlib.Core.List.{List, _++_, append-assoc}
 use Prim.Native.Nat.{ℕ, _+_, _≤_, _<_}
 use native.Mathlib.Omega.{arith}
@@ -7,12 +7,16 @@ use lib.ListN.{length, drop, replicate, length-append}
 use lib.Seq.{drop-at}
 use Rattle.wire.specs.Bytes.{part, over, get16, get32, bytes16}
 use Rattle.wire.specs.BytesLaws.{over-whole, length-bytes16, over-behind, over-ahead, part-behind, part-ahead}
 use Rattle.home.specs.BytesLaws.{get16-front, get32-drop}
 
 -- ---- the five parts: tag count, zone entries, six zeros, dictionary, area
 
 unfoldable pub join : ℕ → List ℕ → List ℕ → List ℕ → List ℕ
 join n es ds a = bytes16 n ++ (es ++ (replicate 6 0 ++ (ds ++ a)))
+
+pub join-zones : (n : ℕ) (es ds a : List ℕ) → drop 2 (join n es ds a) ≡ es ++ (replicate 6 0 ++ (ds ++ a))
+unfolding join bytes16
+join-zones n es ds a = refl
 
 module _ (n : ℕ) (es ds a : List ℕ) (le : length es ≡ 120) (ld : length ds ≡ 1536) where
   -- all before the dictionary, and all before the area
@@ -37,6 +41,9 @@ module _ (n : ℕ) (es ds a : List ℕ) (le : length es ≡ 120) (ld : length ds
   split2 : join n es ds a ≡ lead2 ++ a
   unfolding join lead2
   split2 = simp append-assoc
+
+  pub join-area-at : drop 1664 (join n es ds a) ≡ a
+  join-area-at = ap (drop 1664) split2 ∙ drop-at lead2 a 1664 length-lead2
 
   pub join-dictionary : drop 128 (join n es ds a) ≡ ds ++ a
   join-dictionary = ap (drop 128) split ∙ drop-at lead (ds ++ a) 128 length-lead
@@ -71,7 +78,7 @@ module _ (n : ℕ) (es ds a : List ℕ) (le : length es ≡ 120) (ld : length ds
   join-tags g = get16-front n (es ++ (replicate 6 0 ++ (ds ++ a))) g
 
   pub join-bears : (k : ℕ) → get32 (join n es ds a) (1664 + k) ≡ get32 a k
-  join-bears k = sym (get32-drop (join n es ds a) 1664 k) ∙ ap (λ (x : List ℕ). get32 x k) (ap (drop 1664) split2 ∙ drop-at lead2 a 1664 length-lead2)
+  join-bears k = sym (get32-drop (join n es ds a) 1664 k) ∙ ap (λ (x : List ℕ). get32 x k) join-area-at
 
   pub join-length : length (join n es ds a) ≡ 1664 + length a
   join-length = ap length split2 ∙ length-append lead2 a ∙ ap (λ (k : ℕ). k + length a) length-lead2
