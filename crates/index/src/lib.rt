@@ -103,7 +103,7 @@ fn commit_open(image: &mut [u8], space: &[u8], n: usize) -> Outcome
         return Outcome::Refused(6);
     }
     if sound::sound(space) {
-        log::commit(image, space, n)
+        log::commit_clear(image, space, n)
     } else {
         Outcome::Refused(7)
     }

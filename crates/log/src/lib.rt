@@ -182,8 +182,8 @@ fn commit_pages(
     report(130 * k + 4, n, made)
 }
 
-// With the mark clear: 6, 13, or the stores.
-fn commit_clear(image: &mut [u8], space: &[u8], n: usize) -> Outcome
+// A commit to an image with a right head and mark 0, which the caller has looked at: 6, 13, or the stores.
+pub fn commit_clear(image: &mut [u8], space: &[u8], n: usize) -> Outcome
     requires { ⌜ (headOk (now image) ≡ true) × (mark (now image) ≡ 0) ⌝ }
     ensures { λ r. ⌜ r ≡ answer (commitPlan anyBytes (now (image .entry)) (now (space .entry))) n ⌝ }
     ensures { λ _. ⌜ now (image .exit) ≡ after (commitPlan anyBytes (now (image .entry)) (now (space .entry))) n (now (image .entry)) ⌝ }

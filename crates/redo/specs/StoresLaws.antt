@@ -5,11 +5,11 @@ use native.Mathlib.Omega.{arith}
 use mathlib.Core.List.{List, [], _∷_, _++_}
 use lib.ListN.{length, length-append}
 use Rattle.wire.specs.Bytes.{over, bytes16}
-use Rattle.wire.specs.BytesLaws.{get16-same, get16-over, length-bytes16, length-over, over-low, over-in, over-high}
+use Rattle.wire.specs.BytesLaws.{get16-same, get16-over, length-bytes16, length-over, over-low, over-high}
 use Rattle.wire.specs.All.{All}
 use Rattle.redo.specs.Store.{apply, run}
 use Rattle.redo.specs.StoreLaws.{apply-append, length-apply, apply-run}
-use Rattle.redo.specs.Image.{count, mark}
+use Rattle.redo.specs.Image.{count}
 use Rattle.redo.specs.Entry.{Entry, entryAt, entries, logged}
 use Rattle.redo.specs.EntryLaws.{Long, Whole, entries-same, length-logged, length-replay, logged-reads}
 use Rattle.redo.specs.Stores.{clearMark, recoverStores, logStores, commitStores}
@@ -57,10 +57,6 @@ module _ (l : List ℕ) {es : List Entry} (a : All (Whole 65536) es) (few : leng
       ∙ apply-append (run 8 (bytes16 (length es))) (run 10 (165 ∷ [])) (apply (logged 0 es) l)
       ∙ apply-run 10 (165 ∷ []) (apply (run 8 (bytes16 (length es))) (apply (logged 0 es) l))
       ∙ ap (λ (z : List ℕ). over z 10 (165 ∷ [])) (apply-run 8 (bytes16 (length es)) (apply (logged 0 es) l))
-
-  pub log-mark : mark (apply (logStores es) l) ≡ 165
-  unfolding y
-  log-mark = rw log-is (over-in y 10 (165 ∷ []) 0 (omega arith) (rw length-over (omega (arith, long-x))))
 
   pub log-count : count (apply (logStores es) l) ≡ length es
   unfolding y

@@ -4,6 +4,7 @@ use borrow.Author.Tests.{not-true, not-false, eqb-true, eqb-false}
 use lib.ListN.{length}
 use Rattle.redo.specs.Image.{home}
 use Rattle.log.specs.Answers.{refused-is}
+use Rattle.gates.specs.GatesLaws.{image-open}
 use borrow.Author.Needs.{needs}
 use Rattle.index.proofs.commit_open.Statement.{statement}
 use Rattle.index.proofs.commit_open.Tie as tie
@@ -23,8 +24,8 @@ returns c =
 sound-requires : tie.Need-sound-requires
 sound-requires c κs = search needs
 
-commit-requires : tie.Need-commit-requires
-commit-requires c κs = search needs
+commit-clear-requires : tie.Need-commit-clear-requires
+commit-clear-requires c κs = let o = image-open _ (c .before .before .before .before .before .before .before .before .pre) in (o .head, o .clear)
 
 same-length-2 : tie.Need-same-length-2
 same-length-2 c = search needs
@@ -32,7 +33,7 @@ same-length-2 c = search needs
 returns-2 : tie.Need-returns-2
 returns-2 c =
     let a = c .before .before .before .before .before .before .before .before .before .before .before .args in
-    rw (commit-passes (a .image .now) (a .space .now) (c .before .before .before .before .before .before .before .before .before .before .before .pre) (sym (c .before .before .before .before .before .sound .ensures) ∙ c .before .before .before .before .if2 .taken)) at (c .before .before .commit .ensures)
+    rw (commit-passes (a .image .now) (a .space .now) (c .before .before .before .before .before .before .before .before .before .before .before .pre) (sym (c .before .before .before .before .before .sound .ensures) ∙ c .before .before .before .before .if2 .taken)) at (c .before .before .commit-clear .ensures)
 
 same-length-3 : tie.Need-same-length-3
 same-length-3 c = search needs
@@ -51,7 +52,7 @@ commit-open-spec =
     same-length
     returns
     sound-requires
-    commit-requires
+    commit-clear-requires
     same-length-2
     returns-2
     same-length-3
