@@ -29,16 +29,13 @@ pub record Fine (ds : List Entry) : Type 0 where
   pub few : length ds ≤ 256
   pub small : All Small ds
 
-pub ld : (ds : List Entry) → Fine ds → length (padded ds) ≡ 1536
-ld ds ok = length-padded ds (ok .few)
-
 module _ (es a : List ℕ) (le : length es ≡ 120) (ds : List Entry) (ok : Fine ds) where
   pub state-tags : get16 (state es ds a) 0 ≡ length ds
-  state-tags = join-tags (length ds) es (padded ds) a le (ld ds ok) (omega (arith, ok .few))
+  state-tags = join-tags (length ds) es (padded ds) a le (length-padded ds (ok .few)) (omega (arith, ok .few))
 
   pub state-dictionary : drop 128 (state es ds a) ≡ entriesBytes ds ++ (replicate (1536 - 6 * length ds) 0 ++ a)
   unfolding padded
-  state-dictionary = join-dictionary (length ds) es (padded ds) a le (ld ds ok) ∙ append-assoc (entriesBytes ds) (replicate (1536 - 6 * length ds) 0) a
+  state-dictionary = join-dictionary (length ds) es (padded ds) a le (length-padded ds (ok .few)) ∙ append-assoc (entriesBytes ds) (replicate (1536 - 6 * length ds) 0) a
 
   pub state-entries : entriesAt (state es ds a) 0 (get16 (state es ds a) 0) ≡ ds
   state-entries = ap (entriesAt (state es ds a) 0) state-tags ∙ entries-back (state es ds a) 0 ds (replicate (1536 - 6 * length ds) 0 ++ a) state-dictionary (ok .small)

@@ -18,11 +18,11 @@ use Rattle.home.specs.FindLaws.{pdistinct}
 use Rattle.home.specs.Bytes.{Spot, row, spots, paint, Entry, entryOf, sorted, dictionary, padded, zoneEntries, area, encode, blockBytes}
 use Rattle.home.specs.BytesLaws.{chop, get32-front}
 use Rattle.home.specs.AreaLaws.{Good, Apart, Reads, bytesOf, length-block, length-paint}
-use Rattle.home.specs.HomeLaws.{get32-at}
+use Rattle.home.specs.HomeLaws.{get32-at, length-padded}
 use Rattle.home.specs.DictionaryLaws.{Else, Below, sorted-perm, sorted-rising, perm-sorted, pairs-of}
 use Rattle.home.specs.EntriesLaws.{Small, small-entries}
 use Rattle.home.specs.JoinLaws.{join-length}
-use Rattle.home.specs.EncodeLaws.{state, Fine, ld, encode-state}
+use Rattle.home.specs.EncodeLaws.{state, Fine, encode-state}
 use Rattle.moves.specs.Moves.{Movable, carried, zoned, moved}
 use Rattle.moves.specs.AreaLaws.{apart-sym, paint-perm, paint-gone}
 use Rattle.moves.specs.EntryLaws.{Parted, kept, sorted-one}
@@ -80,7 +80,7 @@ module _ (R : ℕ) (small : R ≤ 1024) (es : List ℕ) (le : length es ≡ 120)
   spots-long ss k =
       let ds : List Entry = sorted (map entryOf ss) in
       let a : List ℕ = paint ss zeros in
-      join-length (length ds) es (padded ds) a le (ld ds (spots-fine ss k)) ∙ omega (arith, length-paint ss zeros, lz)
+      join-length (length ds) es (padded ds) a le (length-padded ds (spots-fine ss k .few)) ∙ omega (arith, length-paint ss zeros, lz)
 
   pub spots-zoned : (ss : List Spot) → Kept R ss → (c f n : ℕ) → c < 30 → zoned (atSpots R es ss) c f n ≡ atSpots R (over es (4 * c) (bytes16 f ++ bytes16 n)) ss
   unfolding atSpots

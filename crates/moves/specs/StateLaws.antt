@@ -15,7 +15,8 @@ use Rattle.home.specs.DictionaryLaws.{Below}
 use Rattle.home.specs.Lookup.{Ordered, indexOf}
 use Rattle.home.specs.LookupLaws.{rising-at}
 use Rattle.home.specs.JoinLaws.{join, join-length, join-area, join-entry, join-zone, join-count, join-part, join-words, join-bears}
-use Rattle.home.specs.EncodeLaws.{state, Fine, ld, state-tags, state-entries}
+use Rattle.home.specs.HomeLaws.{length-padded}
+use Rattle.home.specs.EncodeLaws.{state, Fine, state-tags, state-entries}
 use Rattle.moves.specs.Moves.{carried, Movable, celled, entered, unentered, zoned, moved}
 use Rattle.moves.specs.EntryLaws.{rank, rank-entries, rank-at, word, length-word, padded-celled, padded-entered, padded-unentered}
 
@@ -36,27 +37,27 @@ module _ (es a : List ℕ) (le : length es ≡ 120) (ds : List Entry) (ok : Fine
   pub state-ordered : Pairs Below ds → Ordered (state es ds a)
   state-ordered r = record {
     few = omega (arith, state-tags es a le ds ok, ok .few);
-    long = omega (arith, join-length (length ds) es (padded ds) a le (ld ds ok));
+    long = omega (arith, join-length (length ds) es (padded ds) a le (length-padded ds (ok .few)));
     rise = λ i j b c. rising-at (state es ds a) 0 (get16 (state es ds a) 0) i j (subst (Pairs Below) (sym (state-entries es a le ds ok)) r) (omega arith) b (omega arith);
   }
 
   pub state-zoned : (c f k : ℕ) → c < 30 → zoned (state es ds a) c f k ≡ state (over es (4 * c) (bytes16 f ++ bytes16 k)) ds a
   unfolding zoned
-  state-zoned c f k g = join-zone (length ds) es (padded ds) a le (ld ds ok) (4 * c) (bytes16 f ++ bytes16 k)
+  state-zoned c f k g = join-zone (length ds) es (padded ds) a le (length-padded ds (ok .few)) (4 * c) (bytes16 f ++ bytes16 k)
       (rw length-append (omega (arith, length-bytes16 f, length-bytes16 k)))
 
   pub state-written : (p : ℕ) (bs : List ℕ) → over (state es ds a) (cellAt p) bs ≡ state es ds (over a (8 * p) bs)
-  state-written p bs = join-area (length ds) es (padded ds) a le (ld ds ok) (8 * p) bs
+  state-written p bs = join-area (length ds) es (padded ds) a le (length-padded ds (ok .few)) (8 * p) bs
 
   pub state-carried : (p q n : ℕ) → carried (state es ds a) (cellAt p) (cellAt q) n ≡ state es ds (carried a (8 * p) (8 * q) n)
   unfolding carried
   state-carried p q n =
-      ap (over (over (state es ds a) (cellAt p) (replicate n 0)) (cellAt q)) (join-part (length ds) es (padded ds) a le (ld ds ok) (8 * p) n)
-      ∙ ap (λ (l : List ℕ). over l (cellAt q) (part a (8 * p) n)) (join-area (length ds) es (padded ds) a le (ld ds ok) (8 * p) (replicate n 0))
-      ∙ join-area (length ds) es (padded ds) (over a (8 * p) (replicate n 0)) le (ld ds ok) (8 * q) (part a (8 * p) n)
+      ap (over (over (state es ds a) (cellAt p) (replicate n 0)) (cellAt q)) (join-part (length ds) es (padded ds) a le (length-padded ds (ok .few)) (8 * p) n)
+      ∙ ap (λ (l : List ℕ). over l (cellAt q) (part a (8 * p) n)) (join-area (length ds) es (padded ds) a le (length-padded ds (ok .few)) (8 * p) (replicate n 0))
+      ∙ join-area (length ds) es (padded ds) (over a (8 * p) (replicate n 0)) le (length-padded ds (ok .few)) (8 * q) (part a (8 * p) n)
 
   pub state-bears : (p : ℕ) → get32 (state es ds a) (cellAt p) ≡ get32 a (8 * p)
-  state-bears p = join-bears (length ds) es (padded ds) a le (ld ds ok) (8 * p)
+  state-bears p = join-bears (length ds) es (padded ds) a le (length-padded ds (ok .few)) (8 * p)
 
 -- ---- one entry among lower and higher ones
 
@@ -73,7 +74,7 @@ module _ (es : List ℕ) (le : length es ≡ 120) (pre post : List Entry) where
       let i : ℕ = length pre in
       let e : 128 + 6 * i + 4 ≡ 128 + (6 * i + 4) = omega arith in
       ap (λ (k : ℕ). over (state es (pre ++ x ∷ post) a) k (bytes16 (x' .cell))) e
-      ∙ join-entry (length (pre ++ x ∷ post)) es (padded (pre ++ x ∷ post)) a le (ld (pre ++ x ∷ post) ok) (6 * i + 4) (bytes16 (x' .cell))
+      ∙ join-entry (length (pre ++ x ∷ post)) es (padded (pre ++ x ∷ post)) a le (length-padded (pre ++ x ∷ post) (ok .few)) (6 * i + 4) (bytes16 (x' .cell))
       (omega (arith, ok .few, longer x, long, length-bytes16 (x' .cell)))
       ∙ ap₂ (λ (k : ℕ) (l : List ℕ). join k es l a) (longer x ∙ sym (longer x')) (padded-celled pre post x x' q)
 
@@ -109,7 +110,7 @@ module _ (es : List ℕ) (le : length es ≡ 120) (pre post : List Entry) where
         let ds : List Entry = pre ++ post in
         let n : ℕ = length ds in
         let i : ℕ = length pre in
-        let l : length (padded ds) ≡ 1536 = ld ds ok in
+        let l : length (padded ds) ≡ 1536 = length-padded ds (ok .few) in
         let k : ℕ = 6 * (n - i) in
         let e : 128 + 6 * i + 6 ≡ 128 + (6 * i + 6) = omega arith in
         let b : i + length post ≡ n = sym long in
@@ -132,7 +133,7 @@ module _ (es : List ℕ) (le : length es ≡ 120) (pre post : List Entry) where
         let ds : List Entry = pre ++ x ∷ post in
         let n : ℕ = length ds in
         let i : ℕ = length pre in
-        let l : length (padded ds) ≡ 1536 = ld ds ok in
+        let l : length (padded ds) ≡ 1536 = length-padded ds (ok .few) in
         let few : n ≤ 256 = ok .few in
         let k : ℕ = 6 * (n - (i + 1)) in
         let e : 128 + 6 * i + 6 ≡ 128 + (6 * i + 6) = omega arith in
