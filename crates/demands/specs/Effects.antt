@@ -1,5 +1,5 @@
 -- Demand 2 for the edits: an edit changes the named tag's list as said, and every other tag reads as before.
-use mathlib.Core.Path.{_≡_, refl, sym, ap, _∙_}
+use mathlib.Core.Path.{_≡_, refl, sym, _∙_}
 use mathlib.Core.Bool.{true}
 use mathlib.Core.Logic.{_≢_}
 use mathlib.Core.Option.{Option, none, some}
@@ -23,7 +23,7 @@ use Rattle.home.specs.Edits.{Edit, put, delete, setMinutes, dropTag}
 use Rattle.home.specs.EditsLaws.{Fine, changed, put-fine, delete-fine, set-fine, drop-fine}
 use Rattle.home.specs.Bytes.{decode}
 use Rattle.home.specs.Sound.{sound, pagesOf, listOf}
-use Rattle.home.specs.SoundLaws.{sound-encode, encode-decode, listOf-encode, sound-some, sound-small, sound-valid}
+use Rattle.home.specs.SoundLaws.{sound-encode, listOf-encode, sound-some, sound-small, sound-long, sound-valid}
 use Rattle.home.specs.EncodeLaws.{length-loose, valid-loose}
 use Rattle.moves.specs.Stored.{settled}
 use Rattle.edits.specs.Edits.{edited}
@@ -57,7 +57,7 @@ module _ (w : List ℕ) (t : ℕ) (small : t < 4294967296) where
       go none i h = never i
       go (some zs) i h = record {
         fine = sound-encode (pagesOf w) zs (sound-some w s) (sound-small w s) (h .valid);
-        long = length-loose (pagesOf w) zs (valid-loose (pagesOf w) zs (h .valid)) ∙ sym (ap length (sym (encode-decode w s)) ∙ length-loose (pagesOf w) (decode w) (valid-loose (pagesOf w) (decode w) (sound-valid w s)));
+        long = length-loose (pagesOf w) zs (valid-loose (pagesOf w) zs (h .valid)) ∙ sym (sound-long w s);
         list = listOf-encode (pagesOf w) zs t (sound-small w s) (h .valid) ∙ h .found;
         counts = refl;
         others = λ u d. listOf-encode (pagesOf w) zs u (sound-small w s) (h .valid) ∙ h .others u d;

@@ -136,9 +136,9 @@ module _ (R : ℕ) (small : R ≤ 1024) (es : List ℕ) (le : length es ≡ 120)
 
 -- ---- a layout's bytes
 
-pub encode-spots : (R : ℕ) → R ≤ 1024 → (zs : List Zone) → Loose R zs → encode R zs ≡ atSpots R (zoneEntries zs) (spots 0 zs)
+pub encode-spots : (R : ℕ) (zs : List Zone) → Loose R zs → encode R zs ≡ atSpots R (zoneEntries zs) (spots 0 zs)
 unfolding atSpots dictionary area
-encode-spots R small zs v = encode-state R zs v
+encode-spots R zs v = encode-state R zs v
 
 -- ---- blocks in the order of their cells
 

@@ -34,7 +34,7 @@ fine-less pre x post ok =
 
 -- ---- a layout's bytes as its parts
 
-module _ (R : ℕ) (small : R ≤ 1024) (zs : List Zone) (v : Loose R zs) where
+module _ (R : ℕ) (zs : List Zone) (v : Loose R zs) where
   -- the tags of its blocks, in any order
   pub others : (ss : List Spot) → Perm (spots 0 zs) ss → Pairs Else (map entryOf ss)
   others ss p = ppairs Else else-sym (ptrans (dictionary-perm zs) (pmap entryOf p)) (rising-else (dictionary zs) (dictionary-rising zs (v .distinct)))
@@ -54,19 +54,20 @@ module _ (R : ℕ) (small : R ≤ 1024) (zs : List Zone) (v : Loose R zs) where
       let sit : Sits (s .class) (s .block) = all-head (pall (λ (x : Spot). Sits (x .class) (x .block)) p (spots-sit (8 * R) 0 0 zs (v .fit))) in
       get32-at a (bytesOf s ++ rest) (8 * s .cell) (chop (8 * s .cell) n a ∙ ap (λ (l : List ℕ). l ++ rest) r) ∙ get32-front (s .block .tag) [] (sit .tag)
 
-  -- ---- an entry taken out
+-- ---- an entry taken out
 
+module _ (R : ℕ) (small : R ≤ 1024) (zs : List Zone) (v : Loose R zs) where
   fine-without : (s : Spot) (ss : List Spot) → Perm (spots 0 zs) (s ∷ ss) → Fine (sorted (map entryOf ss))
   fine-without s ss p =
       let x : Entry = entryOf s in
-      let t : Parted (x .tag) (sorted (map entryOf ss)) = kept x (map entryOf ss) (others (s ∷ ss) p) in
-      subst Fine (sym (t .is)) (fine-less (t .pre) x (t .post) (subst Fine (dictionary-as (s ∷ ss) p ∙ sorted-one x (map entryOf ss) t) (fine R small zs v)))
+      let t : Parted (x .tag) (sorted (map entryOf ss)) = kept x (map entryOf ss) (others R zs v (s ∷ ss) p) in
+      subst Fine (sym (t .is)) (fine-less (t .pre) x (t .post) (subst Fine (dictionary-as R zs v (s ∷ ss) p ∙ sorted-one x (map entryOf ss) t) (fine R small zs v)))
 
   pub unentered-state : (s : Spot) (ss : List Spot) → Perm (spots 0 zs) (s ∷ ss) → unentered (encode R zs) (s .block .tag) ≡ state (zoneEntries zs) (sorted (map entryOf ss)) (area (8 * R) zs)
   unentered-state s ss p =
       let x : Entry = entryOf s in
-      let t : Parted (x .tag) (sorted (map entryOf ss)) = kept x (map entryOf ss) (others (s ∷ ss) p) in
-      let d : dictionary zs ≡ t .pre ++ x ∷ t .post = dictionary-as (s ∷ ss) p ∙ sorted-one x (map entryOf ss) t in
+      let t : Parted (x .tag) (sorted (map entryOf ss)) = kept x (map entryOf ss) (others R zs v (s ∷ ss) p) in
+      let d : dictionary zs ≡ t .pre ++ x ∷ t .post = dictionary-as R zs v (s ∷ ss) p ∙ sorted-one x (map entryOf ss) t in
       ap (λ (h : List ℕ). unentered h (x .tag)) (encode-state R zs v ∙ ap (λ (y : List Entry). state (zoneEntries zs) y (area (8 * R) zs)) d)
       ∙ state-unentered (zoneEntries zs) (length-zones R zs v) (t .pre) (t .post) (area (8 * R) zs) (x .tag) (t .low) (t .high) x refl (subst Fine d (fine R small zs v))
       ∙ ap (λ (y : List Entry). state (zoneEntries zs) y (area (8 * R) zs)) (sym (t .is))
@@ -83,7 +84,7 @@ module _ (R : ℕ) (small : R ≤ 1024) (zs : List Zone) (v : Loose R zs) where
   without n q p b y r was =
       let s : Spot = spot n q b in
       let w : Spot = spot n p y in
-      let o : Pairs Else (map entryOf (w ∷ r)) = pairs-tail Else (entryOf s) (map entryOf (w ∷ r)) (others (s ∷ w ∷ r) was) in
+      let o : Pairs Else (map entryOf (w ∷ r)) = pairs-tail Else (entryOf s) (map entryOf (w ∷ r)) (others R zs v (s ∷ w ∷ r) was) in
       let u : Parted (y .tag) (sorted (map entryOf r)) = kept (entryOf w) (map entryOf r) o in
       let m : sorted (map entryOf (w ∷ r)) ≡ u .pre ++ entryOf w ∷ u .post = sorted-one (entryOf w) (map entryOf r) u in
       record {
@@ -91,7 +92,7 @@ module _ (R : ℕ) (small : R ≤ 1024) (zs : List Zone) (v : Loose R zs) where
         fine = subst Fine m (fine-without s (w ∷ r) was);
         rising = subst (Pairs Below) m (sorted-rising (map entryOf (w ∷ r)) o);
         bytes = unentered-state s (w ∷ r) was ∙ ap (λ (z : List Entry). state (zoneEntries zs) z (area (8 * R) zs)) m;
-        bears = area-bears w (s ∷ r) (ptrans was (pswap s w r));
+        bears = area-bears R zs v w (s ∷ r) (ptrans was (pswap s w r));
       }
 
   pub movable-without : (n q p : ℕ) (b y : Block) (r : List Spot) → Perm (spots 0 zs) (spot n q b ∷ spot n p y ∷ r) → Movable (unentered (encode R zs) (b .tag)) p
@@ -127,13 +128,13 @@ module _ (R : ℕ) (small : R ≤ 1024) (zs zs' : List Zone) (v : Loose R zs) (v
         let x : Entry = entryOf s in
         let x' : Entry = entryOf (spot (s .class) q (s .block)) in
         let xs : List Entry = map entryOf ss in
-        let t : Parted (x .tag) (sorted xs) = kept x xs (others R small zs v (s ∷ ss) p) in
-        let d : dictionary zs ≡ t .pre ++ x ∷ t .post = dictionary-as R small zs v (s ∷ ss) p ∙ sorted-one x xs t in
-        let d' : dictionary zs' ≡ t .pre ++ x' ∷ t .post = dictionary-as R small zs' v' (spot (s .class) q (s .block) ∷ ss) p' ∙ sorted-one x' xs t in
+        let t : Parted (x .tag) (sorted xs) = kept x xs (others R zs v (s ∷ ss) p) in
+        let d : dictionary zs ≡ t .pre ++ x ∷ t .post = dictionary-as R zs v (s ∷ ss) p ∙ sorted-one x xs t in
+        let d' : dictionary zs' ≡ t .pre ++ x' ∷ t .post = dictionary-as R zs' v' (spot (s .class) q (s .block) ∷ ss) p' ∙ sorted-one x' xs t in
         zone-set (t .pre ++ x' ∷ t .post) (carried a (8 * s .cell) (8 * q) (8 * cells (s .class))) d' (area-moved (8 * R) zs zs' (v .fit) (v' .fit) s q ss p p')
         ∙ ap (λ (h : List ℕ). zoned h c f k)
         (sym (ap (λ (h : List ℕ). moved h (s .class) (s .cell) q) (encode-state R zs v ∙ ap (λ (y : List Entry). state es y a) d)
-        ∙ state-moved es le (t .pre) (t .post) a (x .tag) (t .low) (t .high) x (s .class) (s .cell) q refl (subst Fine d (fine R small zs v)) (area-bears R small zs v s ss p)))
+        ∙ state-moved es le (t .pre) (t .post) a (x .tag) (t .low) (t .high) x (s .class) (s .cell) q refl (subst Fine d (fine R small zs v)) (area-bears R zs v s ss p)))
 
     pub home-added : (s : Spot) → Perm (spots 0 zs') (s ∷ spots 0 zs)
         → encode R zs' ≡ zoned (entered (over (encode R zs) (cellAt (s .cell)) (bytesOf s)) (s .block .tag) (s .cell)) c f k
@@ -141,8 +142,8 @@ module _ (R : ℕ) (small : R ≤ 1024) (zs zs' : List Zone) (v : Loose R zs) (v
     home-added s p =
         let x : Entry = entryOf s in
         let xs : List Entry = map entryOf (spots 0 zs) in
-        let t : Parted (x .tag) (sorted xs) = kept x xs (others R small zs' v' (s ∷ spots 0 zs) p) in
-        let d' : dictionary zs' ≡ t .pre ++ x ∷ t .post = dictionary-as R small zs' v' (s ∷ spots 0 zs) p ∙ sorted-one x xs t in
+        let t : Parted (x .tag) (sorted xs) = kept x xs (others R zs' v' (s ∷ spots 0 zs) p) in
+        let d' : dictionary zs' ≡ t .pre ++ x ∷ t .post = dictionary-as R zs' v' (s ∷ spots 0 zs) p ∙ sorted-one x xs t in
         let a' : List ℕ = over a (8 * s .cell) (bytesOf s) in
         let ok : Fine (t .pre ++ t .post) = subst Fine (t .is) (fine R small zs v) in
         let ok' : Fine (t .pre ++ x ∷ t .post) = subst Fine d' (fine R small zs' v') in
@@ -169,7 +170,7 @@ module _ (R : ℕ) (small : R ≤ 1024) (zs zs' : List Zone) (v : Loose R zs) (v
         let w' : Entry = entryOf (spot n q y) in
         let m : Without R small zs v n q p b y r = without R small zs v n q p b y r was in
         let ds : List Entry = m .parted .pre ++ w' ∷ m .parted .post in
-        zone-set ds (carried a (8 * p) (8 * q) (8 * cells n)) (dictionary-as R small zs' v' (spot n q y ∷ r) is ∙ sorted-one w' (map entryOf r) (m .parted))
+        zone-set ds (carried a (8 * p) (8 * q) (8 * cells n)) (dictionary-as R zs' v' (spot n q y ∷ r) is ∙ sorted-one w' (map entryOf r) (m .parted))
         (area-filled (8 * R) zs zs' (v .fit) (v' .fit) n q p b y r was is)
         ∙ ap (λ (h : List ℕ). zoned h c f k)
         (sym (ap (λ (h : List ℕ). moved h n p q) (m .bytes)
@@ -179,8 +180,8 @@ module _ (R : ℕ) (small : R ≤ 1024) (zs zs' : List Zone) (v : Loose R zs) (v
   pub home-rewritten : (n p : ℕ) (b b' : Block) (ss : List Spot) → b .tag ≡ b' .tag → zoneEntries zs ≡ zoneEntries zs' → Perm (spots 0 zs) (spot n p b ∷ ss) → Perm (spots 0 zs') (spot n p b' ∷ ss)
       → encode R zs' ≡ over (encode R zs) (cellAt p) (blockBytes n b')
   home-rewritten n p b b' ss q set was is =
-      let d : dictionary zs' ≡ dictionary zs = dictionary-as R small zs' v' (spot n p b' ∷ ss) is
-      ∙ ap (λ (t : ℕ). sorted (record { tag = t; cell = p } ∷ map entryOf ss)) (sym q) ∙ sym (dictionary-as R small zs v (spot n p b ∷ ss) was) in
+      let d : dictionary zs' ≡ dictionary zs = dictionary-as R zs' v' (spot n p b' ∷ ss) is
+      ∙ ap (λ (t : ℕ). sorted (record { tag = t; cell = p } ∷ map entryOf ss)) (sym q) ∙ sym (dictionary-as R zs v (spot n p b ∷ ss) was) in
       encode-state R zs' v'
       ∙ ap₂ (λ (x : List Entry) (y : List ℕ). state (zoneEntries zs') x y) d (area-rewritten (8 * R) zs zs' (v .fit) (v' .fit) n p b b' ss was is)
       ∙ ap (λ (x : List ℕ). state x (dictionary zs) (over a (8 * p) (blockBytes n b'))) (sym set)

@@ -57,10 +57,10 @@ module _ (R : ℕ) (small : R ≤ 1024) (zs : List Zone) (v : Loose R zs) where
       let le : length es ≡ 120 = length-zones R zs v in
       let ok = fine R small zs v in
       let x : Entry = entryOf s in
-      let k : Parted (x .tag) (sorted (map entryOf ss)) = kept x (map entryOf ss) (others R small zs v (s ∷ ss) p) in
-      let d : ds ≡ k .pre ++ x ∷ k .post = dictionary-as R small zs v (s ∷ ss) p ∙ sorted-one x (map entryOf ss) k in
+      let k : Parted (x .tag) (sorted (map entryOf ss)) = kept x (map entryOf ss) (others R zs v (s ∷ ss) p) in
+      let d : ds ≡ k .pre ++ x ∷ k .post = dictionary-as R zs v (s ∷ ss) p ∙ sorted-one x (map entryOf ss) k in
       subst (λ (h : List ℕ). Movable h (s .cell)) (sym (encode-state R zs v ∙ ap (λ (l : List Entry). state es l a) d))
-      (state-movable es le (k .pre) (k .post) a (x .tag) (k .low) (k .high) x (s .cell) refl (subst Fine d ok) (subst (Pairs Below) d (dictionary-rising zs (v .distinct))) (area-bears R small zs v s ss p))
+      (state-movable es le (k .pre) (k .post) a (x .tag) (k .low) (k .high) x (s .cell) refl (subst Fine d ok) (subst (Pairs Below) d (dictionary-rising zs (v .distinct))) (area-bears R zs v s ss p))
 
 pub sound-stored : (h : List ℕ) → sound h ≡ true → Stored h
 sound-stored h t = record { pages = sound-small h t; bytes = sym (encode-decode h t); loose = sound-loose h t }

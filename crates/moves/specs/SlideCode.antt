@@ -118,7 +118,7 @@ module _ (h : List ℕ) (c f to n k : ℕ) (o : Going h c f to n) (size : k ≡ 
   blocks-are = o .many ∙ g .many
 
   bytes-are : h ≡ atSpots R (zoneEntries zs) (spots 0 (startingAt R zs c z f))
-  bytes-are = o .slides .bytes ∙ encode-spots R (z .pages) zs (z .loose) ∙ ap (λ (l : List Zone). atSpots R (zoneEntries zs) (spots 0 l)) (sym here-is)
+  bytes-are = o .slides .bytes ∙ encode-spots R zs (z .loose) ∙ ap (λ (l : List Zone). atSpots R (zoneEntries zs) (spots 0 l)) (sym here-is)
 
   pub down-start : to ≤ f → Sliding R zs h c to to f 0 n k
   down-start le = record {
@@ -159,7 +159,7 @@ module _ (R : ℕ) (zs : List Zone) (h : List ℕ) (c to p q i n k : ℕ) (s : S
       (zone-set (z .lower) (from (z .first) (z .head) (z .tail)) (from to (z .head) (z .tail)) (z .higher) to n refl (sym (s .many)))) in
       ap (λ (l : List ℕ). zoned l c to n) e
       ∙ spots-zoned R (z .pages) (zoneEntries zs) (length-zones R zs (z .loose)) (spots 0 zs') (loose-kept R zs' (s .next)) c to n (z .under)
-      ∙ ap (λ (l : List ℕ). atSpots R l (spots 0 zs')) set ∙ sym (encode-spots R (z .pages) zs' (s .next)) ∙ ap (encode R) (sym (s .there))
+      ∙ ap (λ (l : List ℕ). atSpots R l (spots 0 zs')) set ∙ sym (encode-spots R zs' (s .next)) ∙ ap (encode R) (sym (s .there))
 
   ends : q + n * k ≤ 8192
   ends = rw (s .many, s .size) (omega (arith, s .here .pages, fit-le (8 * R) (suc c) (q + suc (length (s .here .tail)) * cells c) (s .here .higher) (s .reach .high)))

@@ -7,7 +7,7 @@ use Rattle.parse.specs.declared.Parsed.{Parsed}
 use Rattle.text.specs.Text.{numberOf}
 use Rattle.parse.specs.Grammar.{wordOf, built}
 
--- the command of a line with commas at these places
+-- the command of a line with commas at these offsets
 unfoldable pub atCommas : List ℕ → ℕ → ℕ → ℕ → ℕ → ℕ → Parsed
 atCommas l a b c d e =
     built (wordOf (part l 0 a))

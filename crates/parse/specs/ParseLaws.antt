@@ -42,7 +42,7 @@ bad-count : (line : List ℕ) → length line ≤ 80 → (length (fields line) �
 unfolding parsed
 bad-count line g h = rw (le-leb (length line) 80 g) (sym (not-six (fields line) h))
 
--- as many fields up to a place, and those from there on
+-- as many fields up to an offset, and those from there on
 abbrev pub Counted : List ℕ → ℕ → ℕ → Type 0
 Counted line n at = length (fields line) ≡ n + length (fields (drop at line))
 

@@ -111,7 +111,7 @@ fn build(w: Named, t: Number, l: Number, s: Number, p: Number, m: Number) -> Par
     })
 }
 
-// The field between two places as a number.
+// The field between two offsets as a number.
 fn field(line: &[u8], from: usize, to: usize, most: u32) -> Number
     requires { ⌜ (from ≤ to) × (to ≤ length (now line)) ⌝ }
     ensures { λ r. ⌜ r ≡ numberOf most (part (now (line .entry)) from (to - from)) ⌝ }
@@ -119,7 +119,7 @@ fn field(line: &[u8], from: usize, to: usize, most: u32) -> Number
     number_of(&line[from..to], most)
 }
 
-// The command of a line with five commas, at these places.
+// The command of a line with five commas, at these offsets.
 fn at_commas(line: &[u8], a: usize, b: usize, c: usize, d: usize, e: usize) -> Parsed
     requires { ⌜ (a < b) × (b < c) × (c < d) × (d < e) × (e < length (now line)) ⌝ }
     ensures { λ r. ⌜ r ≡ atCommas (now (line .entry)) a b c d e ⌝ }

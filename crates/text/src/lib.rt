@@ -11,7 +11,7 @@ pub enum Number {
     NoNumber,
 }
 
-// The place of a byte's first instance at or after an offset, or the line's length.
+// Where a byte first stands at or after an offset, or the line's length.
 pub fn find(line: &[u8], from: usize, byte: u8) -> usize
     requires { ⌜ from ≤ length (now line) ⌝ }
     ensures { λ r. ⌜ (r ≡ from + before byte (drop from (now (line .entry)))) × (r ≤ length (now (line .entry))) ⌝ }

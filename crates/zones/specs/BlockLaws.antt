@@ -40,7 +40,7 @@ pub record Lying (h : List ℕ) (c p : ℕ) (b : Block) : Type 0 where
   pub tag : get32 h (cellAt p) ≡ b .tag
   pub count : countAt h p ≡ length (b .list)
 
-module _ (R : ℕ) (small : R ≤ 1024) (zs : List Zone) (v : Loose R zs) where
+module _ (R : ℕ) (zs : List Zone) (v : Loose R zs) where
   pub lying : (s : Spot) (ss : List Spot) → Perm (spots 0 zs) (s ∷ ss) → Lying (encode R zs) (s .class) (s .cell) (s .block)
   lying s ss p =
       let sit : Sits (s .class) (s .block) = all-head (pall (λ (x : Spot). Sits (x .class) (x .block)) p (spots-sit (8 * R) 0 0 zs (v .fit))) in
@@ -72,7 +72,7 @@ module _ (R : ℕ) (h : List ℕ) (zs : List Zone) (t c p : ℕ) (k : Known R h 
   known-spots = spots-of R (k .pages) zs (k .found .lower) (k .found .first) (k .found .before) (k .found .block) (k .found .behind) (k .found .higher) c p (k .found .is) (k .class) (k .cell)
 
   pub known-lying : Lying h c p (k .found .block)
-  known-lying = subst (λ (l : List ℕ). Lying l c p (k .found .block)) (sym (k .bytes)) (lying R (k .pages) zs (k .loose) (spot c p (k .found .block)) others-of known-spots)
+  known-lying = subst (λ (l : List ℕ). Lying l c p (k .found .block)) (sym (k .bytes)) (lying R zs (k .loose) (spot c p (k .found .block)) others-of known-spots)
 
 -- ---- found by the dictionary
 
@@ -125,7 +125,7 @@ module _ (h : List ℕ) (s : sound h ≡ true) where
         let q : ℕ = k .first + length (k .before) * cells c in
         let sp : Spot = spot c q (k .block) in
         let perm = spots-of R (sound-small h s) zs (k .lower) (k .first) (k .before) (k .block) (k .behind) (k .higher) c q (k .is) refl refl in
-        let same : d ≡ entryOf sp = same-entry (map entryOf (spots 0 zs)) d (entryOf sp) (others R (sound-small h s) zs (sound-loose h s) (spots 0 zs) (prefl (spots 0 zs)))
+        let same : d ≡ entryOf sp = same-entry (map entryOf (spots 0 zs)) d (entryOf sp) (others R zs (sound-loose h s) (spots 0 zs) (prefl (spots 0 zs)))
         led (map-in entryOf sp (spots 0 zs) (pin sp (psym perm) (inl refl))) (tagged ∙ sym (k .tag)) in
         record {
           pages = sound-small h s;

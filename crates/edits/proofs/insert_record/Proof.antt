@@ -63,16 +63,16 @@ returns-2 c =
     (d .0, c .before .before .insert-here .ensures ∙ in-here _ _ _ _ _ _ (c .before .before .before .before .before .before .before .before .before .pre) (short (c .before .before .before .before .before .before .before)) (keeps (c .before .before .before .before)) ∙ d .1)
 
 add-class-of : tie.Need-add-class-of
-add-class-of c = omega (arith, (short (c .before .before .before .before)))
+add-class-of c = omega (arith, short (c .before .before .before .before))
 
 class-of-requires-2 : tie.Need-class-of-requires-2
-class-of-requires-2 c κs = omega (arith, (short (c .before .before .before .before)))
+class-of-requires-2 c κs = omega (arith, short (c .before .before .before .before))
 
 room-after-requires : tie.Need-room-after-requires
 room-after-requires c κs = (
   sound-stored _ (c .before .before .before .before .before .before .before .pre .listed .sound),
   rw (c .before .before .before .before .class-of .ensures) (class-below _ (listed-most _ _ _ _ (c .before .before .before .before .before .before .before .pre .listed))),
-  rw (c .class-of2 .ensures) (class-below _ (omega (arith, (short (c .before .before .before .before .before))))),
+  rw (c .class-of2 .ensures) (class-below _ (omega (arith, short (c .before .before .before .before .before)))),
 )
 
 same-length-2 : tie.Need-same-length-2
@@ -86,7 +86,7 @@ slice-aggregate-insert-moving c = search needs
 
 insert-moving-requires : tie.Need-insert-moving-requires
 insert-moving-requires c κs = (
-  (c .before .before .before .before .before .before .before .before .before .before .before .pre, short (c .before .before .before .before .before .before .before .before .before), leaves (c .before .before .before .before .before .before), omega (arith, (short (c .before .before .before .before .before .before .before .before .before)))),
+  (c .before .before .before .before .before .before .before .before .before .before .before .pre, short (c .before .before .before .before .before .before .before .before .before), leaves (c .before .before .before .before .before .before), omega (arith, short (c .before .before .before .before .before .before .before .before .before))),
   sym (put-room _ _ _ _ _ _ (c .before .before .before .before .before .before .before .before .before .before .before .pre) (short (c .before .before .before .before .before .before .before .before .before))) ∙ sym (room (c .before .before .before)) ∙ not-false _ (c .before .before .if3 .left),
 )
 
