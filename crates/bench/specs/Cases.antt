@@ -18,13 +18,13 @@ use Rattle.log.specs.declared.Outcome.{Outcome}
 use Rattle.log.specs.declared.Outcome.the-variants.{Done, Cut, Refused as CommitRefused}
 use Rattle.log.specs.Calls.{Plan, answer, after, formatRules, formatPlan, logOk, recoverRules, recoverPlan, changedPages, commitRules, commitPlan}
 use Rattle.log.specs.FormatLaws.{format-done}
-use Rattle.home.specs.Capacities.{capacity, cells, classOf}
-use Rattle.home.specs.Zones.{find, blocks, hasTag, rewritten, place, takeOut, settle, change}
-use Rattle.home.specs.Sizes.{totalAfter}
-use Rattle.home.specs.Valid.{valid}
+use Rattle.layout.specs.Capacities.{capacity, cells, classOf}
+use Rattle.layout.specs.Zones.{find, blocks, hasTag, rewritten, place, takeOut, settle, change}
+use Rattle.layout.specs.Sizes.{totalAfter}
+use Rattle.layout.specs.Valid.{valid}
 use Rattle.home.specs.Bytes.{Spot, spots, encode, decode, zonesFrom}
 use Rattle.home.specs.Sound.{sound, sized, listOf}
-use Rattle.home.specs.Edits.{put, delete, dropTag}
+use Rattle.layout.specs.Edits.{put, delete, dropTag}
 use Rattle.home.specs.declared.Answer.{Answer}
 use Rattle.home.specs.declared.Answer.the-variants.{Count, Refused}
 use Rattle.moves.specs.Stored.{settled}

@@ -77,7 +77,7 @@ fn get32(s: &[u8], at: usize) -> u32 {
 fn in_zone(space: &[u8], c: usize, cell: usize) -> bool {
     if c < 30 {
         let first = get16(space, 2 + 4 * c);
-        first <= cell && (cell - first) / home::classes::cells(c) < get16(space, 4 + 4 * c)
+        first <= cell && (cell - first) / layout::classes::cells(c) < get16(space, 4 + 4 * c)
     } else {
         false
     }

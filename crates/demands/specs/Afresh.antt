@@ -18,15 +18,15 @@ use Rattle.redo.specs.Image.{home}
 use Rattle.log.specs.Calls.{store, answer, changedPages, commitPlan}
 use Rattle.log.specs.Book.{Call, commit, final}
 use Rattle.log.specs.Kept.{IsRecover, Finds, Found}
-use Rattle.home.specs.Capacities.{cells, classOf}
-use Rattle.home.specs.CapacitiesLaws.{cells-mono, cells-pos}
-use Rattle.home.specs.Zones.{Block, Zone, blocks, hasTag, find, place, joined, afresh, settle}
-use Rattle.home.specs.Layout.{change}
+use Rattle.layout.specs.Capacities.{cells, classOf}
+use Rattle.layout.specs.CapacitiesLaws.{cells-mono, cells-pos}
+use Rattle.layout.specs.Zones.{Block, Zone, blocks, hasTag, find, place, joined, afresh, settle}
+use Rattle.layout.specs.Layout.{change}
 use Rattle.wire.specs.Bytes.{isSome}
-use Rattle.home.specs.Edits.{put}
-use Rattle.home.specs.EditsLaws.{length-insert, put-fine}
-use Rattle.home.specs.Afresh.{byClass, behind, Gapless, justBefore}
-use Rattle.home.specs.AfreshLaws.{settle-afresh, change-settles}
+use Rattle.layout.specs.Edits.{put}
+use Rattle.layout.specs.EditsLaws.{length-insert, put-fine}
+use Rattle.layout.specs.Afresh.{byClass, behind, Gapless, justBefore}
+use Rattle.layout.specs.AfreshLaws.{settle-afresh, change-settles}
 use Rattle.home.specs.Bytes.{encode, decode}
 use Rattle.home.specs.Sound.{sound, pagesOf, listOf}
 use Rattle.home.specs.declared.Answer.{Answer}

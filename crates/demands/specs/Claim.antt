@@ -22,7 +22,7 @@ use Rattle.log.specs.Kept.{bookOf, committed, IsRecover, Found, switched-off, c
 use Rattle.log.specs.Last.{Tells, marksAt, kept, logged, last-kept}
 use Rattle.log.specs.Uncaught.{plainStart, plainAfter, Uncaught, PlainClaim}
 use Rattle.log.specs.UncaughtLaws.{uncaught-claim}
-use Rattle.home.specs.Cases.{by-pick}
+use Rattle.layout.specs.Cases.{by-pick}
 use Rattle.home.specs.Sound.{sound}
 
 -- each call's answer, number and byte, and what is kept

@@ -13,14 +13,14 @@ use Rattle.records.specs.declared.Record.{Record}
 use Rattle.records.specs.Records.{Fits, insert, remove, amend}
 use Rattle.home.specs.declared.Answer.{Answer}
 use Rattle.home.specs.declared.Answer.the-variants.{Count, Refused}
-use Rattle.home.specs.Capacities.{cells, classOf}
-use Rattle.home.specs.Zones.{Zone}
-use Rattle.home.specs.Layout.{change}
-use Rattle.home.specs.Cases.{Holds}
+use Rattle.layout.specs.Capacities.{cells, classOf}
+use Rattle.layout.specs.Zones.{Zone}
+use Rattle.layout.specs.Layout.{change}
+use Rattle.layout.specs.Cases.{Holds}
 use Rattle.wire.specs.Bytes.{isSome}
-use Rattle.home.specs.ChangeLaws.{Changed}
-use Rattle.home.specs.Edits.{Edit, put, delete, setMinutes, dropTag}
-use Rattle.home.specs.EditsLaws.{Fine, changed, put-fine, delete-fine, set-fine, drop-fine}
+use Rattle.layout.specs.ChangeLaws.{Changed}
+use Rattle.layout.specs.Edits.{Edit, put, delete, setMinutes, dropTag}
+use Rattle.layout.specs.EditsLaws.{Fine, changed, put-fine, delete-fine, set-fine, drop-fine}
 use Rattle.home.specs.Bytes.{decode}
 use Rattle.home.specs.Sound.{sound, pagesOf, listOf}
 use Rattle.home.specs.SoundLaws.{sound-encode, listOf-encode, sound-some, sound-small, sound-long, sound-valid}

@@ -23,7 +23,7 @@ use Rattle.log.specs.Book.{commit, seen, planOf, allowance, value, final}
 use Rattle.log.specs.Claim.{Starts, holds, done-uncaught}
 use Rattle.log.specs.Kept.{completed}
 use Rattle.home.specs.declared.Answer.the-variants.{Count}
-use Rattle.home.specs.Zones.{blocks, find}
+use Rattle.layout.specs.Zones.{blocks, find}
 use Rattle.home.specs.Bytes.{encode}
 use Rattle.home.specs.Sound.{sized, sound, listOf}
 use Rattle.home.specs.SoundLaws.{sound-encode, listOf-encode}

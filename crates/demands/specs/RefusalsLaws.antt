@@ -13,7 +13,7 @@ use Rattle.merges.specs.declared.Merge.{Merge}
 use Rattle.redo.specs.Store.{Store}
 use Rattle.log.specs.Calls.{Plan, refuse, store, answer, after, commitPlan, recoverPlan, formatPlan}
 use Rattle.home.specs.declared.Answer.the-variants.{Refused}
-use Rattle.home.specs.Edits.{put as putEdit, delete as deleteEdit, setMinutes as setEdit, dropTag as dropEdit}
+use Rattle.layout.specs.Edits.{put as putEdit, delete as deleteEdit, setMinutes as setEdit, dropTag as dropEdit}
 use Rattle.gates.specs.declared.Of.the-variants.{Image, Space}
 use Rattle.gates.specs.Gates.{gateRules}
 use Rattle.reads.specs.Reads.{countIn}

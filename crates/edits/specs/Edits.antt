@@ -8,9 +8,9 @@ use Rattle.wire.specs.Rules.{Ruled}
 use Rattle.records.specs.declared.Record.{Record}
 use Rattle.home.specs.declared.Answer.{Answer}
 use Rattle.home.specs.declared.Answer.the-variants.{Count}
-use Rattle.home.specs.Capacities.{cells}
-use Rattle.home.specs.Zones.{total}
-use Rattle.home.specs.Edits.{Edit, put, delete, setMinutes, dropTag}
+use Rattle.layout.specs.Capacities.{cells}
+use Rattle.layout.specs.Zones.{total}
+use Rattle.layout.specs.Edits.{Edit, put, delete, setMinutes, dropTag}
 use Rattle.home.specs.Bytes.{decode}
 use Rattle.home.specs.Sound.{pagesOf}
 use Rattle.lists.specs.Listed.{changed}

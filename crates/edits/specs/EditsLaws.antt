@@ -22,22 +22,22 @@ use Rattle.records.specs.Moves.{length-up}
 use Rattle.records.specs.Cells.{length-bytesOf}
 use Rattle.records.specs.Edits.{length-encode, decode-encode}
 use Rattle.home.specs.declared.lookup.TagBlock.the-variants.{Unknown}
-use Rattle.home.specs.Capacities.{cells, classOf}
-use Rattle.home.specs.Zones.{Zone, blocks, hasTag, find, total, change as changeBy}
-use Rattle.home.specs.Layout.{change, totalAfter}
-use Rattle.home.specs.Sizes.{blockSize, totalAfter as totalAfterBy}
-use Rattle.home.specs.AfreshLaws.{size-some}
-use Rattle.home.specs.Edits.{Edit, recordRules, put, delete, setMinutes, dropTag}
-use Rattle.home.specs.EditsLaws.{length-amend, exactly, had-size, total-low, empty-unknown}
+use Rattle.layout.specs.Capacities.{cells, classOf}
+use Rattle.layout.specs.Zones.{Zone, blocks, hasTag, find, total, change as changeBy}
+use Rattle.layout.specs.Layout.{change, totalAfter}
+use Rattle.layout.specs.Sizes.{blockSize, totalAfter as totalAfterBy}
+use Rattle.layout.specs.AfreshLaws.{size-some}
+use Rattle.layout.specs.Edits.{Edit, recordRules, put, delete, setMinutes, dropTag}
+use Rattle.layout.specs.EditsLaws.{length-amend, exactly, had-size, total-low, empty-unknown}
 use Rattle.home.specs.HomeLaws.{all-mem}
 use Rattle.home.specs.Bytes.{decode}
 use Rattle.home.specs.Sound.{sound, pagesOf, listOf}
 use Rattle.home.specs.Lookup.{blockOf}
 use Rattle.home.specs.TagBlockLaws.{list-none}
-use Rattle.home.specs.FindLaws.{find-none, lacks-has}
+use Rattle.layout.specs.FindLaws.{find-none, lacks-has}
 use Rattle.home.specs.declared.Answer.{Answer}
 use Rattle.home.specs.declared.Answer.the-variants.{Count, Refused}
-use Rattle.home.specs.Valid.{Proper}
+use Rattle.layout.specs.Valid.{Proper}
 use Rattle.home.specs.SoundLaws.{sound-valid, sound-tags}
 use Rattle.moves.specs.Stored.{settled}
 use Rattle.zones.specs.Place.{Placeable}

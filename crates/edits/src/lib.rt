@@ -1,10 +1,10 @@
 // The edits of a sound workspace, in place: put, delete, set minutes and drop.
 use home::AREA;
 use home::Answer;
-use home::classes::LONGEST_LIST;
-use home::classes::capacity;
-use home::classes::cells;
-use home::classes::class_of;
+use layout::classes::LONGEST_LIST;
+use layout::classes::capacity;
+use layout::classes::cells;
+use layout::classes::class_of;
 use home::lookup::TagBlock;
 use home::lookup::block_of;
 use lists::change::insert_moving;
@@ -20,7 +20,7 @@ use zones::take::take_out;
 ghost use mathlib.Core.Path.{_≡_};
 ghost use mathlib.Core.Bool.{true, false};
 ghost use Prim.Native.Nat.{_<_};
-ghost use Rattle.home.specs.Zones.{blocks, hasTag};
+ghost use Rattle.layout.specs.Zones.{blocks, hasTag};
 ghost use Rattle.home.specs.Bytes.{decode};
 ghost use Rattle.home.specs.Sound.{sound};
 ghost use Rattle.moves.specs.Stored.{Stored};

@@ -7,9 +7,9 @@ use Prim.Native.Nat.{ℕ, zero, suc}
 use lib.ListN.{replicate}
 use Rattle.wire.specs.Bytes.{equal}
 use Rattle.records.specs.declared.Record.{Record}
-use Rattle.home.specs.Capacities.{cells, classOf}
-use Rattle.home.specs.Zones.{Zone, empty, blocks, hasTag, find, rewritten, place, takeOut, settle, change as changeBy}
-use Rattle.home.specs.Layout.{change}
+use Rattle.layout.specs.Capacities.{cells, classOf}
+use Rattle.layout.specs.Zones.{Zone, empty, blocks, hasTag, find, rewritten, place, takeOut, settle, change as changeBy}
+use Rattle.layout.specs.Layout.{change}
 use Rattle.home.specs.Bytes.{Entry, dictionary}
 
 -- so many records, of seconds s, s + 1, ..

@@ -9,13 +9,13 @@ use Rattle.wire.specs.Bytes.{part, over, bytes16, bytes32}
 use Rattle.wire.specs.BytesLaws.{length-over, part-over, Clear, part-else}
 use Rattle.wire.specs.All.{All, none, more, all-append, all-map, all-head, all-tail}
 use Rattle.records.specs.Edits.{length-encode}
-use Rattle.home.specs.Capacities.{cells, capacity, classOf}
-use Rattle.home.specs.Zones.{Block, Zone, empty, from}
-use Rattle.home.specs.Perm.{Pairs, single, after}
-use Rattle.home.specs.Layout.{Sits, Laid, Fit}
+use Rattle.layout.specs.Capacities.{cells, capacity, classOf}
+use Rattle.layout.specs.Zones.{Block, Zone, empty, from}
+use Rattle.layout.specs.Perm.{Pairs, single, after}
+use Rattle.layout.specs.Layout.{Sits, Laid, Fit}
 use Rattle.home.specs.Bytes.{blockBytes, Spot, row, spots, paint, area}
-use Rattle.home.specs.PermLaws.{pairs-append}
-use Rattle.home.specs.AfreshLaws.{laid-fit as laid-fit-by}
+use Rattle.layout.specs.PermLaws.{pairs-append}
+use Rattle.layout.specs.AfreshLaws.{laid-fit as laid-fit-by}
 use Rattle.home.specs.BytesLaws.{part-zeros}
 
 -- ---- layouts

@@ -5,8 +5,8 @@ use lib.Dec.{ltb, eqb}
 use lib.ListN.{length, replicate}
 use Rattle.wire.specs.Bytes.{pick, over, get16, get32, bytes16, bytes32}
 use Rattle.records.specs.Records.{records, encode as recordBytes}
-use Rattle.home.specs.Capacities.{capacity, cells}
-use Rattle.home.specs.Zones.{Block, Zone, empty, from, zone, blocks}
+use Rattle.layout.specs.Capacities.{capacity, cells}
+use Rattle.layout.specs.Zones.{Block, Zone, empty, from, zone, blocks}
 
 -- ---- a layout's bytes
 

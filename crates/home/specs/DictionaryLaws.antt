@@ -9,13 +9,13 @@ use lib.ListN.{length, length-map}
 use borrow.Author.Tests.{ltb-true, ltb-false, lt-ltb, le-ltb}
 use Rattle.wire.specs.Cases.{by-lt}
 use Rattle.wire.specs.All.{All, none, more, all-map}
-use Rattle.home.specs.Capacities.{cells}
-use Rattle.home.specs.Zones.{Block, Zone, empty, from, zone, blocks}
-use Rattle.home.specs.Perm.{Perm, pnil, pskip, pswap, ptrans, In, Pairs, single, after}
-use Rattle.home.specs.Valid.{Other}
+use Rattle.layout.specs.Capacities.{cells}
+use Rattle.layout.specs.Zones.{Block, Zone, empty, from, zone, blocks}
+use Rattle.layout.specs.Perm.{Perm, pnil, pskip, pswap, ptrans, In, Pairs, single, after}
+use Rattle.layout.specs.Valid.{Other}
 use Rattle.home.specs.Bytes.{Spot, row, spots, Entry, entryOf, enter, sorted, dictionary}
-use Rattle.home.specs.Cases.{by-pick}
-use Rattle.home.specs.PermLaws.{prefl, psym, plength, pall, all-zip, ppairs, pin, pulled}
+use Rattle.layout.specs.Cases.{by-pick}
+use Rattle.layout.specs.PermLaws.{prefl, psym, plength, pall, all-zip, ppairs, pin, pulled}
 
 -- entries of different tags, and of rising tags
 abbrev pub Else : Entry → Entry → Type 0

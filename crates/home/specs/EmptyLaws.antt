@@ -8,9 +8,9 @@ use lib.ListN.{length, replicate, replicate-append-replicate}
 use Rattle.wire.specs.Bytes.{get16, blank}
 use Rattle.wire.specs.BytesLaws.{blank-zeros, blank-is}
 use Rattle.wire.specs.Cases.{bool-iff}
-use Rattle.home.specs.Zones.{Zone, empty, from, blocks}
-use Rattle.home.specs.Perm.{single}
-use Rattle.home.specs.Layout.{Valid}
+use Rattle.layout.specs.Zones.{Zone, empty, from, blocks}
+use Rattle.layout.specs.Perm.{single}
+use Rattle.layout.specs.Layout.{Valid}
 use Rattle.home.specs.Bytes.{encode, decode}
 use Rattle.home.specs.Sound.{pagesOf, sized, sound}
 use Rattle.home.specs.SoundLaws.{t-sized, sound-encode, encode-decode, sound-valid, sound-tags}

@@ -6,9 +6,9 @@ use native.Mathlib.Omega.{arith}
 use lib.ListN.{length, drop, replicate}
 use Rattle.wire.specs.Bytes.{part, get16}
 use Rattle.wire.specs.All.{All, all-map}
-use Rattle.home.specs.Capacities.{cells}
-use Rattle.home.specs.Zones.{Zone, empty, from, blocks}
-use Rattle.home.specs.Layout.{Valid, Loose}
+use Rattle.layout.specs.Capacities.{cells}
+use Rattle.layout.specs.Zones.{Zone, empty, from, blocks}
+use Rattle.layout.specs.Layout.{Valid, Loose}
 use Rattle.home.specs.Bytes.{spots, area, zoneEntries, Entry, dictionary, entriesBytes, padded, encode, cellAt, entriesAt, zonesFrom, decode}
 use Rattle.home.specs.Sound.{pagesOf}
 use Rattle.home.specs.AreaLaws.{laid-fit, Reads, area-reads, length-area, Zero, Clean, area-clean}

@@ -6,7 +6,7 @@ use Prim.Native.Nat.{ℕ, _+_, _*_, _≤_, _<_}
 use native.Mathlib.Omega.{arith}
 use native.Mathlib.Nat.{mul-le-mul}
 use borrow.Author.Tests.{eq-eqb, ne-eqb}
-use Rattle.home.specs.Capacities.{cells}
+use Rattle.layout.specs.Capacities.{cells}
 use Rattle.home.specs.Bytes.{firstAt, manyAt, endAt}
 
 pub end-none : (h : List ℕ) (c e : ℕ) → manyAt h c ≡ 0 → endAt h c e ≡ e

@@ -7,15 +7,15 @@ use lib.ListN.{length, drop}
 use lib.Seq.{drop-drop}
 use Rattle.wire.specs.Bytes.{get16, get32, bytes16, bytes32}
 use Rattle.wire.specs.All.{All, none, more}
-use Rattle.home.specs.Zones.{Zone}
-use Rattle.home.specs.Layout.{Sits, Fit}
+use Rattle.layout.specs.Zones.{Zone}
+use Rattle.layout.specs.Layout.{Sits, Fit}
 use Rattle.home.specs.Bytes.{Spot, spots, Entry, entryOf, dictionary, entriesBytes, tagAt, entryCell, entriesAt}
-use Rattle.home.specs.PermLaws.{psym, pall}
+use Rattle.layout.specs.PermLaws.{psym, pall}
 use Rattle.home.specs.BytesLaws.{get16-front, get32-front}
 use Rattle.home.specs.AreaLaws.{Good, spots-sit, spots-good}
 use Rattle.home.specs.HomeLaws.{get16-at, get32-at}
 use Rattle.home.specs.DictionaryLaws.{dictionary-perm}
-use Rattle.home.specs.CapacitiesLaws.{cells-pos}
+use Rattle.layout.specs.CapacitiesLaws.{cells-pos}
 
 -- an entry that 6 bytes hold
 pub record Small (d : Entry) : Type 0 where

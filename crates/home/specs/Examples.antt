@@ -9,15 +9,15 @@ use Rattle.wire.specs.Bytes.{part, blank, equal}
 use Rattle.wire.specs.Rules.{first}
 use Rattle.records.specs.declared.Record.{Record}
 use Rattle.records.specs.Records.{key, look, insert, remove, amend, bytesOf, risingFrom, recordAt}
-use Rattle.home.specs.Capacities.{capacity, cells, classOf}
-use Rattle.home.specs.Zones.{Zone, empty, blocks, hasTag, find, rewritten, place, takeOut, settle, change}
-use Rattle.home.specs.Sizes.{totalAfter}
+use Rattle.layout.specs.Capacities.{capacity, cells, classOf}
+use Rattle.layout.specs.Zones.{Zone, empty, blocks, hasTag, find, rewritten, place, takeOut, settle, change}
+use Rattle.layout.specs.Sizes.{totalAfter}
 use Rattle.home.specs.Bytes.{Entry, dictionary, encode, decode, zonesFrom}
-use Rattle.home.specs.Valid.{valid}
+use Rattle.layout.specs.Valid.{valid}
 use Rattle.home.specs.Sound.{sound}
 use Rattle.home.specs.declared.Answer.{Answer}
 use Rattle.home.specs.declared.Answer.the-variants.{Count, Refused}
-use Rattle.home.specs.Edits.{Edit, put, delete, setMinutes, dropTag}
+use Rattle.layout.specs.Edits.{Edit, put, delete, setMinutes, dropTag}
 
 -- an edit: its tag, and the record with minutes or the key's three numbers
 data Asked : Type 0 where

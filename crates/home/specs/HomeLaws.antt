@@ -13,13 +13,13 @@ use Rattle.records.specs.declared.Record.{Record}
 use Rattle.records.specs.Records.{Fits, records, encode as recordBytes}
 use Rattle.records.specs.Cells.{records-same}
 use Rattle.records.specs.Edits.{length-encode, decode-encode as records-back}
-use Rattle.home.specs.Capacities.{cells, capacity}
-use Rattle.home.specs.CapacitiesLaws.{cells-pos, cells-most}
-use Rattle.home.specs.Zones.{Block, Zone, empty, from, zone, blocks}
-use Rattle.home.specs.Layout.{Sits, Fit}
+use Rattle.layout.specs.Capacities.{cells, capacity}
+use Rattle.layout.specs.CapacitiesLaws.{cells-pos, cells-most}
+use Rattle.layout.specs.Zones.{Block, Zone, empty, from, zone, blocks}
+use Rattle.layout.specs.Layout.{Sits, Fit}
 use Rattle.home.specs.Bytes.{blockBytes, Spot, row, spots, zoneEntries, Entry, entryOf, enter, sorted, dictionary, entriesBytes, padded, cellAt, zoneEntryAt, countAt, blockAt, blocksAt, firstAt, manyAt, zoneAt, zonesFrom}
-use Rattle.home.specs.Cases.{by-pick}
-use Rattle.home.specs.PermLaws.{all-left, all-right}
+use Rattle.layout.specs.Cases.{by-pick}
+use Rattle.layout.specs.PermLaws.{all-left, all-right}
 use Rattle.home.specs.BytesLaws.{chop, get16-drop, get32-drop, get16-front, get32-front}
 use Rattle.home.specs.AreaLaws.{fit-le, bytesOf}
 

@@ -9,15 +9,15 @@ use lib.ListN.{length, drop}
 use Rattle.wire.specs.Bytes.{get16}
 use Rattle.wire.specs.Cases.{by-eq}
 use Rattle.records.specs.Records.{records}
-use Rattle.home.specs.Capacities.{cells}
-use Rattle.home.specs.Zones.{Block, Zone, blocks, find}
-use Rattle.home.specs.Perm.{In, Pairs, after}
-use Rattle.home.specs.Valid.{Other}
-use Rattle.home.specs.Layout.{Sits}
+use Rattle.layout.specs.Capacities.{cells}
+use Rattle.layout.specs.Zones.{Block, Zone, blocks, find}
+use Rattle.layout.specs.Perm.{In, Pairs, after}
+use Rattle.layout.specs.Valid.{Other}
+use Rattle.layout.specs.Layout.{Sits}
 use Rattle.home.specs.Bytes.{Spot, spots, Entry, entryOf, decode, cellAt, countAt, tagAt, entryCell, entriesAt}
 use Rattle.home.specs.Sound.{pagesOf, sound, listOf}
-use Rattle.home.specs.PermLaws.{psym, pulled, all-in, in-all, in-map, map-in, pin}
-use Rattle.home.specs.FindLaws.{pfind, find-here, find-none}
+use Rattle.layout.specs.PermLaws.{psym, pulled, all-in, in-all, in-map, map-in, pin}
+use Rattle.layout.specs.FindLaws.{pfind, find-here, find-none}
 use Rattle.home.specs.AreaLaws.{bytesOf, Good, spots-sit, spots-good}
 use Rattle.home.specs.HomeLaws.{ReadsAt, block-count, block-records, block-starts}
 use Rattle.home.specs.SoundLaws.{sound-small, sound-some, sound-long, sound-valid, sound-loose, sound-tags, sound-words, sound-reads}

@@ -10,7 +10,7 @@ use borrow.Author.Tests.{ltb-true, ltb-false, lt-ltb, eqb-false, ne-eqb}
 use Rattle.wire.specs.Bytes.{get16}
 use Rattle.wire.specs.Cases.{by-test, by-lt, by-eq, never}
 use Rattle.home.specs.declared.lookup.Slot.the-variants.{At, Absent}
-use Rattle.home.specs.Cases.{by-pick}
+use Rattle.layout.specs.Cases.{by-pick}
 use Rattle.home.specs.Bytes.{tagAt}
 use Rattle.home.specs.Sound.{sound}
 use Rattle.home.specs.LookupLaws.{entries-rise, entries-few}

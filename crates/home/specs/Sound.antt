@@ -7,8 +7,8 @@ use lib.Dec.{leb, eqb}
 use lib.ListN.{length}
 use Rattle.wire.specs.Bytes.{equal}
 use Rattle.records.specs.declared.Record.{Record}
-use Rattle.home.specs.Zones.{Zone, blocks, find}
-use Rattle.home.specs.Layout.{Valid, valid}
+use Rattle.layout.specs.Zones.{Zone, blocks, find}
+use Rattle.layout.specs.Layout.{Valid, valid}
 use Rattle.home.specs.Bytes.{encode, decode}
 
 -- "26 + R pages", of 64 bytes

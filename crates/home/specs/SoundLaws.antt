@@ -7,12 +7,12 @@ use native.Mathlib.Omega.{arith}
 use lib.ListN.{length}
 use Rattle.wire.specs.Bytes.{get16}
 use Rattle.wire.specs.All.{All}
-use Rattle.home.specs.Capacities.{cells, classOf}
-use Rattle.home.specs.Zones.{Zone, blocks, find}
-use Rattle.home.specs.Layout.{Valid, Loose}
+use Rattle.layout.specs.Capacities.{cells, classOf}
+use Rattle.layout.specs.Zones.{Zone, blocks, find}
+use Rattle.layout.specs.Layout.{Valid, Loose}
 use Rattle.home.specs.Bytes.{spots, dictionary, encode, decode, entriesAt}
 use Rattle.home.specs.Sound.{pagesOf, sized, sound, Sound, listOf}
-use Rattle.home.specs.ValidLaws.{Tests, t-and, t-le, t-eq, t-equal, t-as, t-valid}
+use Rattle.layout.specs.ValidLaws.{Tests, t-and, t-le, t-eq, t-equal, t-as, t-valid}
 use Rattle.home.specs.HomeLaws.{ReadsAt}
 use Rattle.home.specs.EncodeLaws.{valid-loose, length-loose, reads-loose, decode-loose, tags-loose, words-loose}
 

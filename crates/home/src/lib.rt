@@ -1,5 +1,4 @@
-// Home: the layout of blocks in zones, its bytes, soundness and lookup.
-pub mod classes;
+// Home: the bytes of a layout, soundness and lookup.
 pub mod lookup;
 
 // What an edit, a count or a merge answers: a number of records, or refused with its number.

@@ -1,6 +1,6 @@
 // Reading home: zones, the dictionary, and a tag's list.
 use crate::AREA;
-use crate::classes::cells;
+use layout::classes::cells;
 ghost use mathlib.Core.Path.{_≡_};
 ghost use mathlib.Core.Bool.{true};
 ghost use Prim.Native.Nat.{_+_, _≤_, _<_};

@@ -14,25 +14,25 @@ use Rattle.wire.specs.Cases.{never}
 use Rattle.records.specs.declared.Record.{Record}
 use Rattle.records.specs.Records.{encode as recordBytes, decode as recordsIn}
 use Rattle.records.specs.Edits.{length-encode, decode-encode}
-use Rattle.home.specs.Cases.{Holds}
-use Rattle.home.specs.Capacities.{cells, classOf}
-use Rattle.home.specs.CapacitiesLaws.{cells-pos}
-use Rattle.home.specs.Zones.{Block, Zone, zone, blocks, hasTag, find, takeOut, rewritten, settle, change as changeBy}
-use Rattle.home.specs.Layout.{change, Loose}
-use Rattle.home.specs.FindLaws.{Lacks, has-skip}
-use Rattle.home.specs.PermLaws.{plength}
-use Rattle.home.specs.TakeLaws.{Taken, TakenOut, takeOut-taken, takeOut-valid}
-use Rattle.home.specs.ChangeLaws.{Changed}
-use Rattle.home.specs.EditsLaws.{changed as holds-changed, free-any}
+use Rattle.layout.specs.Cases.{Holds}
+use Rattle.layout.specs.Capacities.{cells, classOf}
+use Rattle.layout.specs.CapacitiesLaws.{cells-pos}
+use Rattle.layout.specs.Zones.{Block, Zone, zone, blocks, hasTag, find, takeOut, rewritten, settle, change as changeBy}
+use Rattle.layout.specs.Layout.{change, Loose}
+use Rattle.layout.specs.FindLaws.{Lacks, has-skip}
+use Rattle.layout.specs.PermLaws.{plength}
+use Rattle.layout.specs.TakeLaws.{Taken, TakenOut, takeOut-taken, takeOut-valid}
+use Rattle.layout.specs.ChangeLaws.{Changed}
+use Rattle.layout.specs.EditsLaws.{changed as holds-changed, free-any}
 use Rattle.home.specs.HomeLaws.{all-mem}
 use Rattle.home.specs.Bytes.{encode, decode, blockBytes, cellAt}
 use Rattle.home.specs.Sound.{sound, pagesOf, listOf}
 use Rattle.home.specs.SoundLaws.{sound-encode, sound-small, sound-some, sound-valid}
 use Rattle.moves.specs.StepLaws.{home-list-set}
 use Rattle.moves.specs.Stored.{settled}
-use Rattle.home.specs.Afresh.{justBefore}
-use Rattle.home.specs.AfreshLaws.{change-settles}
-use Rattle.home.specs.Valid.{Proper}
+use Rattle.layout.specs.Afresh.{justBefore}
+use Rattle.layout.specs.AfreshLaws.{change-settles}
+use Rattle.layout.specs.Valid.{Proper}
 use Rattle.home.specs.EncodeLaws.{decode-loose, pages-loose, valid-loose}
 use Rattle.zones.specs.Known.{Known}
 use Rattle.zones.specs.KnownLaws.{rewritten-there}

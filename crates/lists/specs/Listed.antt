@@ -8,13 +8,13 @@ use lib.ListN.{length, take, drop}
 use Rattle.wire.specs.Bytes.{isSome}
 use Rattle.records.specs.declared.Record.{Record}
 use Rattle.records.specs.Records.{Fits, key, look, held, rank, encode as recordBytes}
-use Rattle.home.specs.Capacities.{classOf}
-use Rattle.home.specs.Layout.{change}
+use Rattle.layout.specs.Capacities.{classOf}
+use Rattle.layout.specs.Layout.{change}
 use Rattle.home.specs.Bytes.{decode}
 use Rattle.home.specs.Sound.{sound, pagesOf, listOf}
 use Rattle.home.specs.declared.lookup.TagBlock.the-variants.{Known}
 use Rattle.home.specs.Lookup.{blockOf}
-use Rattle.home.specs.Valid.{Proper}
+use Rattle.layout.specs.Valid.{Proper}
 use Rattle.moves.specs.Stored.{settled}
 
 -- a sound home in which tag t has a block of n records at cell p

@@ -9,9 +9,9 @@ use Rattle.records.specs.declared.Record.{Record}
 use Rattle.records.specs.Records.{records, rising, decode as recordsIn}
 use Rattle.records.specs.Edits.{decode-part}
 use Rattle.wire.specs.BytesLaws.{part-of}
-use Rattle.home.specs.Capacities.{classOf}
-use Rattle.home.specs.CapacitiesLaws.{cells-most}
-use Rattle.home.specs.Zones.{Zone, blocks, hasTag, find}
+use Rattle.layout.specs.Capacities.{classOf}
+use Rattle.layout.specs.CapacitiesLaws.{cells-most}
+use Rattle.layout.specs.Zones.{Zone, blocks, hasTag, find}
 use Rattle.home.specs.Bytes.{decode, listAt}
 use Rattle.home.specs.TagBlockLaws.{Entered, block-entered}
 use Rattle.home.specs.Sound.{sound, pagesOf, listOf}

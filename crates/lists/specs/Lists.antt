@@ -5,7 +5,7 @@ use lib.ListN.{replicate}
 use Rattle.wire.specs.Bytes.{part, over, bytes16}
 use Rattle.records.specs.declared.Record.{Record}
 use Rattle.records.specs.Records.{bytesOf, amended}
-use Rattle.home.specs.Zones.{Block}
+use Rattle.layout.specs.Zones.{Block}
 use Rattle.home.specs.Bytes.{cellAt, listAt}
 
 -- a block with another list

@@ -15,14 +15,14 @@ use Rattle.records.specs.Records.{key, rising, look, held, rank, insert, remove
 use Rattle.records.specs.Order.{insert-at, remove-at, amend-at, rank-length, held-end}
 use Rattle.records.specs.Cells.{length-bytesOf}
 use Rattle.records.specs.Edits.{length-encode}
-use Rattle.home.specs.CapacitiesLaws.{cells-is}
-use Rattle.home.specs.Capacities.{capacity, cells}
-use Rattle.home.specs.Zones.{Block}
-use Rattle.home.specs.Layout.{Sits}
+use Rattle.layout.specs.CapacitiesLaws.{cells-is}
+use Rattle.layout.specs.Capacities.{capacity, cells}
+use Rattle.layout.specs.Zones.{Block}
+use Rattle.layout.specs.Layout.{Sits}
 use Rattle.home.specs.Bytes.{blockBytes, cellAt, listAt}
 use Rattle.home.specs.AreaLaws.{length-block}
 use Rattle.home.specs.BytesLaws.{part-join}
-use Rattle.home.specs.EditsLaws.{length-insert, length-amend}
+use Rattle.layout.specs.EditsLaws.{length-insert, length-amend}
 use Rattle.home.specs.HomeLaws.{block-starts, block-records}
 use Rattle.lists.specs.Lists.{holding, grown, shrunk, relisted, insertedHere, removedHere, setHere}
 

@@ -11,16 +11,16 @@ use lib.Seq.{take-at}
 use Rattle.records.specs.declared.Record.{Record}
 use Rattle.records.specs.Records.{key, held, rank, insert, remove, amend, encode as recordBytes, decode as recordsIn}
 use Rattle.records.specs.Order.{remove-at, rank-length}
-use Rattle.home.specs.Cases.{some-is}
-use Rattle.home.specs.Capacities.{cells, capacity, classOf}
-use Rattle.home.specs.CapacitiesLaws.{cells-is, class-holds}
-use Rattle.home.specs.Zones.{Block, takeOut}
-use Rattle.home.specs.Layout.{change}
-use Rattle.home.specs.EditsLaws.{length-insert, length-amend, remove-listed, amend-listed, insert-listed, shorter}
+use Rattle.layout.specs.Cases.{some-is}
+use Rattle.layout.specs.Capacities.{cells, capacity, classOf}
+use Rattle.layout.specs.CapacitiesLaws.{cells-is, class-holds}
+use Rattle.layout.specs.Zones.{Block, takeOut}
+use Rattle.layout.specs.Layout.{change}
+use Rattle.layout.specs.EditsLaws.{length-insert, length-amend, remove-listed, amend-listed, insert-listed, shorter}
 use Rattle.wire.specs.Bytes.{over, isSome}
 use Rattle.home.specs.Bytes.{encode, decode, blockBytes, cellAt, listAt}
 use Rattle.home.specs.Sound.{pagesOf, listOf}
-use Rattle.home.specs.Valid.{Proper}
+use Rattle.layout.specs.Valid.{Proper}
 use Rattle.home.specs.SoundLaws.{sound-valid}
 use Rattle.zones.specs.BlockLaws.{Lying}
 use Rattle.lists.specs.Lists.{grown, shrunk, insertedHere, removedHere, setHere}

@@ -2,9 +2,9 @@
 use crate::here::insert_aside;
 use crate::here::remove_aside;
 use crate::here::remove_here;
-use home::classes::LONGEST_LIST;
-use home::classes::class_of;
-use home::classes::under;
+use layout::classes::LONGEST_LIST;
+use layout::classes::class_of;
+use layout::classes::under;
 use records::Record;
 use zones::afresh::settle;
 use zones::take::take_out;
@@ -14,10 +14,10 @@ ghost use mathlib.Core.Logic.{_≢_};
 ghost use Prim.Native.Nat.{_+_, _-_, _*_, _≤_, _<_};
 ghost use lib.ListN.{length};
 ghost use Rattle.records.specs.Records.{insert as inserted, decode as recordsIn};
-ghost use Rattle.home.specs.Capacities.{classOf};
+ghost use Rattle.layout.specs.Capacities.{classOf};
 ghost use Rattle.home.specs.Bytes.{decode};
 ghost use Rattle.home.specs.Sound.{pagesOf, listOf};
-ghost use Rattle.home.specs.Layout.{change};
+ghost use Rattle.layout.specs.Layout.{change};
 ghost use Rattle.wire.specs.Bytes.{isSome};
 ghost use Rattle.lists.specs.Listed.{Ranked, Missing, Moving, changed, without};
 

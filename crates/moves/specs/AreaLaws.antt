@@ -8,11 +8,11 @@ use lib.ListN.{length, replicate, length-replicate}
 use Rattle.wire.specs.Bytes.{part, over}
 use Rattle.wire.specs.BytesLaws.{Clear, over-again, over-same, over-comm}
 use Rattle.wire.specs.All.{All, more, all-map, all-head, all-tail}
-use Rattle.home.specs.Capacities.{cells}
-use Rattle.home.specs.Zones.{Block, Zone}
-use Rattle.home.specs.Perm.{Perm, pnil, pskip, pswap, ptrans, Pairs, after}
-use Rattle.home.specs.PermLaws.{pall, ppairs, pairs-head}
-use Rattle.home.specs.Layout.{Fit}
+use Rattle.layout.specs.Capacities.{cells}
+use Rattle.layout.specs.Zones.{Block, Zone}
+use Rattle.layout.specs.Perm.{Perm, pnil, pskip, pswap, ptrans, Pairs, after}
+use Rattle.layout.specs.PermLaws.{pall, ppairs, pairs-head}
+use Rattle.layout.specs.Layout.{Fit}
 use Rattle.home.specs.Bytes.{Spot, spots, paint, area, blockBytes}
 use Rattle.home.specs.BytesLaws.{part-zeros}
 use Rattle.home.specs.AreaLaws.{Good, Apart, bytesOf, Reads, spots-apart, spots-good, length-block, length-paint, area-reads, clear8, paint-else}

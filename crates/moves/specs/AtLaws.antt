@@ -5,8 +5,8 @@ use Prim.Native.Nat.{ℕ, zero, suc, _+_, _<_}
 use native.Mathlib.Omega.{arith}
 use lib.ListN.{length, take, drop, getD, length-append}
 use lib.Seq.{take-at, drop-at}
-use Rattle.home.specs.Capacities.{cells}
-use Rattle.home.specs.Zones.{Zone, empty, endOf}
+use Rattle.layout.specs.Capacities.{cells}
+use Rattle.layout.specs.Zones.{Zone, empty, endOf}
 use Rattle.moves.specs.Stored.{endAfter}
 
 pub at-zone : (zs : List Zone) (c : ℕ) → c < length zs → (P : List Zone → ℕ → Type 0) → ((ls : List Zone) (z : Zone) (hs : List Zone) → P (ls ++ z ∷ hs) (length ls)) → P zs c

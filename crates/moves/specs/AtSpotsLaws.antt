@@ -8,13 +8,13 @@ use lib.ListN.{length, drop, replicate, length-replicate, length-map}
 use Rattle.wire.specs.Bytes.{part, over, get32, bytes16, bytes32}
 use Rattle.wire.specs.BytesLaws.{part-over}
 use Rattle.wire.specs.All.{All, none, more, all-map, all-head, all-tail}
-use Rattle.home.specs.Capacities.{cells}
-use Rattle.home.specs.Zones.{Block, Zone, empty, from, endOf}
-use Rattle.home.specs.Perm.{Perm, Pairs, single, after}
-use Rattle.home.specs.PermLaws.{psym, plength, pall, ppairs, pairs-head, pmap}
-use Rattle.home.specs.Valid.{Other}
-use Rattle.home.specs.Layout.{Sits, Fit, Loose}
-use Rattle.home.specs.FindLaws.{pdistinct}
+use Rattle.layout.specs.Capacities.{cells}
+use Rattle.layout.specs.Zones.{Block, Zone, empty, from, endOf}
+use Rattle.layout.specs.Perm.{Perm, Pairs, single, after}
+use Rattle.layout.specs.PermLaws.{psym, plength, pall, ppairs, pairs-head, pmap}
+use Rattle.layout.specs.Valid.{Other}
+use Rattle.layout.specs.Layout.{Sits, Fit, Loose}
+use Rattle.layout.specs.FindLaws.{pdistinct}
 use Rattle.home.specs.Bytes.{Spot, row, spots, paint, Entry, entryOf, sorted, dictionary, padded, zoneEntries, area, encode, blockBytes}
 use Rattle.home.specs.BytesLaws.{chop, get32-front}
 use Rattle.home.specs.AreaLaws.{Good, Apart, Reads, bytesOf, length-block, length-paint}

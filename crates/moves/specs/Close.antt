@@ -3,10 +3,10 @@ use mathlib.Core.Path.{_≡_}
 use mathlib.Core.List.{List, _∷_, _++_}
 use Prim.Native.Nat.{ℕ, suc, _≤_}
 use lib.ListN.{take, drop, getD}
-use Rattle.home.specs.Capacities.{cells}
-use Rattle.home.specs.Zones.{Zone, empty, from, lowered, endOf, close}
+use Rattle.layout.specs.Capacities.{cells}
+use Rattle.layout.specs.Zones.{Zone, empty, from, lowered, endOf, close}
 use Rattle.home.specs.Bytes.{encode}
-use Rattle.home.specs.Layout.{Loose}
+use Rattle.layout.specs.Layout.{Loose}
 use Rattle.moves.specs.Stored.{endAfter}
 
 -- zone c as low as it goes above e

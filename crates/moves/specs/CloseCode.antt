@@ -5,14 +5,14 @@ use Prim.Native.Nat.{ℕ, suc, _+_, _*_, _≤_, _<_, _-_}
 use native.Mathlib.Omega.{arith}
 use native.Mathlib.Numerals.{add-one}
 use lib.ListN.{length, take, drop, take-append-drop}
-use Rattle.home.specs.Capacities.{cells}
+use Rattle.layout.specs.Capacities.{cells}
 use Rattle.home.specs.Bytes.{cellAt, firstAt, manyAt, decode}
 use Rattle.home.specs.Sound.{pagesOf}
 use Rattle.moves.specs.Moves.{Movable, zoned, moved}
 use Rattle.moves.specs.Stored.{endAfter}
-use Rattle.home.specs.Zones.{Zone}
+use Rattle.layout.specs.Zones.{Zone}
 use Rattle.home.specs.EndLaws.{zone-fits}
-use Rattle.home.specs.Layout.{Fit}
+use Rattle.layout.specs.Layout.{Fit}
 use Rattle.home.specs.AreaLaws.{fit-le}
 use Rattle.home.specs.EncodeLaws.{length-loose, decode-loose, pages-loose}
 use Rattle.moves.specs.LooseLaws.{zone-at, fit-above}

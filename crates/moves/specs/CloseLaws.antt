@@ -8,12 +8,12 @@ use lib.ListN.{length, drop, take-append-drop, drop-of-length-le, take}
 use borrow.Author.Tests.{le-leb, lt-leb}
 use Rattle.wire.specs.Cases.{by-lt}
 use Rattle.wire.specs.All.{all-head}
-use Rattle.home.specs.Capacities.{cells}
-use Rattle.home.specs.CapacitiesLaws.{cells-pos}
-use Rattle.home.specs.Zones.{Block, Zone, empty, from, lowered, lastOf, initOf, endOf, blocks, close}
-use Rattle.home.specs.Perm.{Perm, ptrans}
-use Rattle.home.specs.PermLaws.{psym, pright, protate, pall, prefl}
-use Rattle.home.specs.Layout.{Sits, Fit, Loose}
+use Rattle.layout.specs.Capacities.{cells}
+use Rattle.layout.specs.CapacitiesLaws.{cells-pos}
+use Rattle.layout.specs.Zones.{Block, Zone, empty, from, lowered, lastOf, initOf, endOf, blocks, close}
+use Rattle.layout.specs.Perm.{Perm, ptrans}
+use Rattle.layout.specs.PermLaws.{psym, pright, protate, pall, prefl}
+use Rattle.layout.specs.Layout.{Sits, Fit, Loose}
 use Rattle.home.specs.Bytes.{Spot, row, spots, encode, cellAt, firstAt, manyAt}
 use Rattle.home.specs.AreaLaws.{Good, spots-good}
 use Rattle.home.specs.EncodeLaws.{length-loose}

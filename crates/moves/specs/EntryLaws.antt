@@ -11,8 +11,8 @@ use Rattle.wire.specs.Bytes.{pick, part, over, bytes16, bytes32}
 use Rattle.wire.specs.BytesLaws.{over-append, length-bytes16, length-bytes32, over-comm, over-seam}
 use Rattle.wire.specs.Cases.{by-lt}
 use Rattle.wire.specs.All.{All, none, more, all-map}
-use Rattle.home.specs.Perm.{Pairs, after}
-use Rattle.home.specs.PermLaws.{psym, pall}
+use Rattle.layout.specs.Perm.{Pairs, after}
+use Rattle.layout.specs.PermLaws.{psym, pall}
 use Rattle.home.specs.Bytes.{Entry, enter, sorted, entriesBytes, padded, tagAt, entriesAt}
 use Rattle.home.specs.BytesLaws.{part-join}
 use Rattle.home.specs.HomeLaws.{length-entriesBytes}

@@ -6,11 +6,11 @@ use native.Mathlib.Omega.{arith}
 use lib.ListN.{length, drop, replicate, length-append}
 use Rattle.wire.specs.Bytes.{over, get32, bytes16, bytes32}
 use Rattle.wire.specs.All.{all-append, all-head}
-use Rattle.home.specs.Capacities.{cells}
-use Rattle.home.specs.Zones.{Block, Zone}
-use Rattle.home.specs.Perm.{Perm, pswap, ptrans, Pairs}
-use Rattle.home.specs.PermLaws.{prefl, pall, ppairs, pairs-tail, all-left, all-right, pmap}
-use Rattle.home.specs.Layout.{Sits, Loose}
+use Rattle.layout.specs.Capacities.{cells}
+use Rattle.layout.specs.Zones.{Block, Zone}
+use Rattle.layout.specs.Perm.{Perm, pswap, ptrans, Pairs}
+use Rattle.layout.specs.PermLaws.{prefl, pall, ppairs, pairs-tail, all-left, all-right, pmap}
+use Rattle.layout.specs.Layout.{Sits, Loose}
 use Rattle.home.specs.Bytes.{Spot, spots, Entry, entryOf, sorted, dictionary, zoneEntries, area, encode, blockBytes, cellAt}
 use Rattle.home.specs.BytesLaws.{chop, get32-front}
 use Rattle.home.specs.AreaLaws.{Reads, bytesOf, spots-sit, area-reads}

@@ -7,15 +7,15 @@ use native.Mathlib.Omega.{arith}
 use lib.Dec.{leb}
 use lib.ListN.{length, getD, length-append}
 use borrow.Author.Tests.{leb-true, leb-false}
-use Rattle.home.specs.Capacities.{cells}
-use Rattle.home.specs.CapacitiesLaws.{cells-mono}
-use Rattle.home.specs.Zones.{Block, Zone, empty, from, zone, blocks, lifted, endOf, shift}
-use Rattle.home.specs.Perm.{Perm, pnil, pskip, ptrans, Pairs, after}
-use Rattle.home.specs.PermLaws.{prefl, psym, pleft, pright, protate, plength, pall, ppairs}
-use Rattle.home.specs.Valid.{Other}
-use Rattle.home.specs.Layout.{Sits, Fit, Loose}
-use Rattle.home.specs.Cases.{by-pick, Holds, holds-map}
-use Rattle.home.specs.PlaceLaws.{length-snoc}
+use Rattle.layout.specs.Capacities.{cells}
+use Rattle.layout.specs.CapacitiesLaws.{cells-mono}
+use Rattle.layout.specs.Zones.{Block, Zone, empty, from, zone, blocks, lifted, endOf, shift}
+use Rattle.layout.specs.Perm.{Perm, pnil, pskip, ptrans, Pairs, after}
+use Rattle.layout.specs.PermLaws.{prefl, psym, pleft, pright, protate, plength, pall, ppairs}
+use Rattle.layout.specs.Valid.{Other}
+use Rattle.layout.specs.Layout.{Sits, Fit, Loose}
+use Rattle.layout.specs.Cases.{by-pick, Holds, holds-map}
+use Rattle.layout.specs.PlaceLaws.{length-snoc}
 use Rattle.home.specs.Bytes.{Spot, spots, Entry, entryOf, sorted, dictionary, zoneEntries, area, encode, decode, firstAt, manyAt}
 use Rattle.home.specs.Sound.{sound, pagesOf}
 use Rattle.home.specs.SoundLaws.{encode-decode, sound-small, sound-loose}

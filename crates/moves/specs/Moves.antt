@@ -3,7 +3,7 @@ use mathlib.Core.List.{List, _++_}
 use Prim.Native.Nat.{ℕ, _+_, _*_, _-_, _<_}
 use lib.ListN.{replicate}
 use Rattle.wire.specs.Bytes.{part, over, get16, get32, bytes16, bytes32}
-use Rattle.home.specs.Capacities.{cells}
+use Rattle.layout.specs.Capacities.{cells}
 use Rattle.home.specs.Bytes.{cellAt, zoneEntryAt}
 use Rattle.home.specs.Lookup.{Ordered, indexOf}
 

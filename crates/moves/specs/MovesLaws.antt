@@ -8,7 +8,7 @@ use lib.Seq.{ext-getD}
 use Rattle.wire.specs.Bytes.{part, over, get16, get32, bytes16, bytes32}
 use Rattle.wire.specs.BytesLaws.{length-over, over-low, over-high, length-part, length-bytes16, length-bytes32, over-at, over-next}
 use Rattle.wire.specs.Cases.{by-lt, by-within}
-use Rattle.home.specs.Capacities.{cells}
+use Rattle.layout.specs.Capacities.{cells}
 use Rattle.home.specs.Bytes.{zoneEntryAt, cellAt}
 use Rattle.home.specs.Lookup.{indexOf}
 use Rattle.moves.specs.Moves.{carried, celled, entered, unentered, zoned, moved}

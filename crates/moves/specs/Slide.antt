@@ -4,10 +4,10 @@ use mathlib.Core.Logic.{_≢_}
 use mathlib.Core.List.{List, _∷_, _++_}
 use Prim.Native.Nat.{ℕ, suc, _≤_, _<_}
 use lib.ListN.{take, drop}
-use Rattle.home.specs.Zones.{Zone, based}
+use Rattle.layout.specs.Zones.{Zone, based}
 use Rattle.home.specs.Bytes.{encode, decode, firstAt, manyAt}
 use Rattle.home.specs.Sound.{pagesOf}
-use Rattle.home.specs.Layout.{Loose}
+use Rattle.layout.specs.Layout.{Loose}
 use Rattle.moves.specs.Close.{zoneOf}
 
 -- zone c from cell `to` on

@@ -8,9 +8,9 @@ use native.Mathlib.Nat.{mul-le-mul-right}
 use native.Mathlib.Numerals.{add-one}
 use lib.ListN.{length}
 use Rattle.wire.specs.Bytes.{over, bytes16}
-use Rattle.home.specs.Capacities.{cells}
-use Rattle.home.specs.Zones.{Zone, empty, from, based}
-use Rattle.home.specs.Layout.{Fit, Loose}
+use Rattle.layout.specs.Capacities.{cells}
+use Rattle.layout.specs.Zones.{Zone, empty, from, based}
+use Rattle.layout.specs.Layout.{Fit, Loose}
 use Rattle.home.specs.Bytes.{spots, zoneEntries, encode, decode, cellAt, firstAt, manyAt}
 use Rattle.home.specs.Sound.{pagesOf}
 use Rattle.home.specs.AreaLaws.{fit-le}

@@ -5,12 +5,12 @@ use Prim.Native.Nat.{ℕ, zero, suc, _+_, _*_, _≤_, _<_}
 use native.Mathlib.Omega.{arith}
 use lib.ListN.{length, take, drop, length-append, length-map, length-take, take-append-drop, drop-of-length-le}
 use Rattle.wire.specs.All.{All, all-append, all-head}
-use Rattle.home.specs.Capacities.{cells}
-use Rattle.home.specs.Zones.{Block, Zone, from, blocks, based}
-use Rattle.home.specs.Perm.{Perm, Pairs, ptrans}
-use Rattle.home.specs.PermLaws.{pleft, pright, pfront, all-left, all-right}
-use Rattle.home.specs.Valid.{Other}
-use Rattle.home.specs.Layout.{Sits, Fit, Loose}
+use Rattle.layout.specs.Capacities.{cells}
+use Rattle.layout.specs.Zones.{Block, Zone, from, blocks, based}
+use Rattle.layout.specs.Perm.{Perm, Pairs, ptrans}
+use Rattle.layout.specs.PermLaws.{pleft, pright, pfront, all-left, all-right}
+use Rattle.layout.specs.Valid.{Other}
+use Rattle.layout.specs.Layout.{Sits, Fit, Loose}
 use Rattle.home.specs.Bytes.{Spot, row, spots, zoneEntries, cellAt}
 use Rattle.home.specs.AreaLaws.{spots-sit, row-sits}
 use Rattle.home.specs.DictionaryLaws.{row-blocks, spots-blocks}

@@ -4,10 +4,10 @@ use mathlib.Core.List.{List, [], _∷_, _++_, append-assoc}
 use Prim.Native.Nat.{ℕ, suc, _+_, _*_, _-_, _≤_}
 use native.Mathlib.Omega.{arith}
 use lib.ListN.{length}
-use Rattle.home.specs.Capacities.{cells}
-use Rattle.home.specs.Zones.{Block, Zone, empty, from, added, lifted, endOf, lastOf, initOf, turned}
-use Rattle.home.specs.Perm.{Perm, pskip, ptrans}
-use Rattle.home.specs.PermLaws.{prefl, pleft, pright, pfront, protate}
+use Rattle.layout.specs.Capacities.{cells}
+use Rattle.layout.specs.Zones.{Block, Zone, empty, from, added, lifted, endOf, lastOf, initOf, turned}
+use Rattle.layout.specs.Perm.{Perm, pskip, ptrans}
+use Rattle.layout.specs.PermLaws.{prefl, pleft, pright, pfront, protate}
 use Rattle.home.specs.Bytes.{Spot, row, spots}
 
 abbrev pub spot : ℕ → ℕ → Block → Spot

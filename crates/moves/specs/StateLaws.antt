@@ -8,9 +8,9 @@ use lib.ListN.{length, replicate, length-append}
 use Rattle.wire.specs.Bytes.{part, over, get16, get32, bytes16, bytes32}
 use Rattle.wire.specs.BytesLaws.{length-part, length-over, length-bytes16}
 use Rattle.wire.specs.All.{All, more, all-map}
-use Rattle.home.specs.Capacities.{cells}
+use Rattle.layout.specs.Capacities.{cells}
 use Rattle.home.specs.Bytes.{Entry, padded, cellAt}
-use Rattle.home.specs.Perm.{Pairs}
+use Rattle.layout.specs.Perm.{Pairs}
 use Rattle.home.specs.DictionaryLaws.{Below}
 use Rattle.home.specs.Lookup.{Ordered, indexOf}
 use Rattle.home.specs.LookupLaws.{rising-at}

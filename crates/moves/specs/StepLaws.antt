@@ -6,14 +6,14 @@ use native.Mathlib.Omega.{arith}
 use lib.ListN.{length, replicate, length-append}
 use Rattle.wire.specs.Bytes.{over, bytes16}
 use Rattle.wire.specs.BytesLaws.{length-bytes16, over-seam}
-use Rattle.home.specs.Capacities.{cells}
-use Rattle.home.specs.Zones.{Block, Zone, empty, from, zone, added, lifted, endOf, lastOf, initOf, turned}
-use Rattle.home.specs.Perm.{Perm, pskip, ptrans}
-use Rattle.home.specs.PermLaws.{prefl, pright, pfront}
+use Rattle.layout.specs.Capacities.{cells}
+use Rattle.layout.specs.Zones.{Block, Zone, empty, from, zone, added, lifted, endOf, lastOf, initOf, turned}
+use Rattle.layout.specs.Perm.{Perm, pskip, ptrans}
+use Rattle.layout.specs.PermLaws.{prefl, pright, pfront}
 use Rattle.home.specs.Bytes.{Spot, row, spots, zoneEntries, encode, blockBytes, cellAt}
 use Rattle.home.specs.HomeLaws.{length-entries}
 use Rattle.home.specs.DictionaryLaws.{zone-spots}
-use Rattle.home.specs.Layout.{Loose}
+use Rattle.layout.specs.Layout.{Loose}
 use Rattle.moves.specs.Moves.{zoned, moved, entered, unentered}
 use Rattle.moves.specs.SpotLaws.{spot, spots-in, in-context, liftedTo, liftedFirst, lifted-spots, added-spots, length-init, lower-before, lower-after, gone-before, fill-before, fill-after}
 use Rattle.moves.specs.HomeLaws.{home-moved, home-added, home-gone, home-filled, home-rewritten}

@@ -3,9 +3,9 @@ use mathlib.Core.Path.{_≡_}
 use mathlib.Core.Option.{Option, none, some}
 use mathlib.Core.List.{List, [], _∷_}
 use Prim.Native.Nat.{ℕ, suc, _≤_}
-use Rattle.home.specs.Capacities.{cells}
-use Rattle.home.specs.Zones.{Zone, endOf}
-use Rattle.home.specs.Layout.{Loose}
+use Rattle.layout.specs.Capacities.{cells}
+use Rattle.layout.specs.Zones.{Zone, endOf}
+use Rattle.layout.specs.Layout.{Loose}
 use Rattle.home.specs.Bytes.{encode, decode}
 use Rattle.home.specs.Sound.{pagesOf}
 

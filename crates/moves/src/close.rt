@@ -1,7 +1,7 @@
 // Gaps closed: higher zones are lowered.
 use crate::move_block;
 use crate::set_zone;
-use home::classes::cells;
+use layout::classes::cells;
 use home::lookup::zone_count;
 use home::lookup::zone_first;
 ghost use mathlib.Core.Path.{_≡_};

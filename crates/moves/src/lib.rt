@@ -3,13 +3,13 @@ pub mod close;
 pub mod slide;
 
 use home::AREA;
-use home::classes::cells;
+use layout::classes::cells;
 use home::lookup::index_of;
 ghost use mathlib.Core.Path.{_≡_};
 ghost use Prim.Native.Nat.{_+_, _*_, _≤_, _<_, min};
 ghost use lib.ListN.{length};
 ghost use Rattle.wire.specs.Bytes.{get16};
-ghost use Rattle.home.specs.Capacities.{cells as sizeOf};
+ghost use Rattle.layout.specs.Capacities.{cells as sizeOf};
 ghost use Rattle.home.specs.Bytes.{cellAt};
 ghost use Rattle.home.specs.Lookup.{Ordered, indexOf};
 ghost use Rattle.moves.specs.Moves.{carried, Movable, celled, entered, unentered, zoned, moved};

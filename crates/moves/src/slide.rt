@@ -1,7 +1,7 @@
 // A zone moved as it is to another cell, one block after the other.
 use crate::move_block;
 use crate::set_zone;
-use home::classes::cells;
+use layout::classes::cells;
 use home::lookup::zone_count;
 use home::lookup::zone_first;
 ghost use mathlib.Core.Path.{_≡_};

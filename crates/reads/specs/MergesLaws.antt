@@ -14,14 +14,14 @@ use Rattle.merges.specs.declared.Merge.{Merge}
 use Rattle.records.specs.Records.{encode, decode}
 use Rattle.merges.specs.Merging.{merge}
 use Rattle.records.specs.Edits.{decode-encode}
-use Rattle.home.specs.EditsLaws.{valid-listed}
+use Rattle.layout.specs.EditsLaws.{valid-listed}
 use Rattle.home.specs.HomeLaws.{all-mem}
 use Rattle.home.specs.Bytes.{decode as zonesIn}
 use Rattle.home.specs.Sound.{pagesOf, sound, listOf}
 use Rattle.home.specs.SoundLaws.{sound-valid}
 use Rattle.home.specs.declared.Answer.{Answer}
 use Rattle.home.specs.declared.Answer.the-variants.{Count, Refused}
-use Rattle.home.specs.Valid.{Proper}
+use Rattle.layout.specs.Valid.{Proper}
 use Rattle.gates.specs.declared.Of.{Of}
 use Rattle.gates.specs.Gates.{gateRules, homeIn}
 use Rattle.gates.specs.GatesLaws.{home-fine}

@@ -9,13 +9,13 @@ use native.Mathlib.Numerals.{add-one}
 use lib.ListN.{length, take, drop, getD, length-take, take-append-drop, length-drop}
 use borrow.Author.Tests.{le-leb, lt-leb}
 use Rattle.wire.specs.Cases.{by-lt}
-use Rattle.home.specs.Capacities.{cells}
-use Rattle.home.specs.CapacitiesLaws.{cells-mono}
-use Rattle.home.specs.Zones.{Block, Zone, empty, from, blocks, lifted, endOf, shift}
-use Rattle.home.specs.PermLaws.{prefl, pleft}
-use Rattle.home.specs.Layout.{Fit, Loose}
-use Rattle.home.specs.Cases.{Holds, map-twice, map-same}
-use Rattle.home.specs.PlaceLaws.{length-snoc}
+use Rattle.layout.specs.Capacities.{cells}
+use Rattle.layout.specs.CapacitiesLaws.{cells-mono}
+use Rattle.layout.specs.Zones.{Block, Zone, empty, from, blocks, lifted, endOf, shift}
+use Rattle.layout.specs.PermLaws.{prefl, pleft}
+use Rattle.layout.specs.Layout.{Fit, Loose}
+use Rattle.layout.specs.Cases.{Holds, map-twice, map-same}
+use Rattle.layout.specs.PlaceLaws.{length-snoc}
 use Rattle.home.specs.Bytes.{Spot, row, spots, encode, decode, cellAt, firstAt, manyAt, endAt}
 use Rattle.home.specs.EndLaws.{end-none, end-some}
 use Rattle.home.specs.Sound.{pagesOf}

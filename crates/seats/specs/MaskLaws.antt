@@ -10,8 +10,8 @@ use lib.ListN.{length, replicate}
 use Rattle.wire.specs.Bytes.{part, over, get16, get32, bytes16}
 use Rattle.wire.specs.BytesLaws.{length-over, over-comm, part-else, get16-else, get32-else}
 use Rattle.wire.specs.Cases.{by-test, by-eq, by-lt}
-use Rattle.home.specs.Capacities.{cells}
-use Rattle.home.specs.Cases.{map-swap}
+use Rattle.layout.specs.Capacities.{cells}
+use Rattle.layout.specs.Cases.{map-swap}
 use Rattle.home.specs.Bytes.{cellAt, zoneEntryAt, firstAt, manyAt, endAt}
 use Rattle.home.specs.Lookup.{rankAt, indexOf}
 use Rattle.moves.specs.Moves.{wordAt, Movable, carried, celled, moved, zoned}

@@ -10,9 +10,9 @@ use native.Mathlib.Numerals.{add-one}
 use lib.Dec.{leb}
 use lib.ListN.{length}
 use Rattle.wire.specs.Bytes.{isSome}
-use Rattle.home.specs.Capacities.{cells}
-use Rattle.home.specs.CapacitiesLaws.{cells-mono, cells-pos, cells-rise}
-use Rattle.home.specs.Cases.{by-pick, Holds}
+use Rattle.layout.specs.Capacities.{cells}
+use Rattle.layout.specs.CapacitiesLaws.{cells-mono, cells-pos, cells-rise}
+use Rattle.layout.specs.Cases.{by-pick, Holds}
 use Rattle.home.specs.Bytes.{cellAt, firstAt, manyAt, endAt}
 use Rattle.home.specs.EndLaws.{end-some}
 use Rattle.moves.specs.Moves.{Movable, moved, zoned}

@@ -3,7 +3,7 @@ use mathlib.Core.Path.{_≡_, refl}
 use mathlib.Core.List.{List, [], _∷_, _++_}
 use Prim.Native.Nat.{ℕ}
 use Rattle.wire.specs.Bytes.{get16}
-use Rattle.home.specs.Capacities.{cells}
+use Rattle.layout.specs.Capacities.{cells}
 use Rattle.seats.specs.Seat.{cellFor, firstWith, endFrom, nextZone}
 
 -- home's bytes up to there, with these in the entry of class 0; what is not there reads as zero

@@ -9,9 +9,9 @@ use lib.Dec.{leb}
 use lib.ListN.{length}
 use borrow.Author.Tests.{eq-eqb, ne-eqb, le-leb, lt-leb, leb-true}
 use Rattle.wire.specs.Cases.{by-eq, by-lt}
-use Rattle.home.specs.Capacities.{cells}
-use Rattle.home.specs.CapacitiesLaws.{cells-mono, cells-pos}
-use Rattle.home.specs.Cases.{by-pick, Holds, holds-under}
+use Rattle.layout.specs.Capacities.{cells}
+use Rattle.layout.specs.CapacitiesLaws.{cells-mono, cells-pos}
+use Rattle.layout.specs.Cases.{by-pick, Holds, holds-under}
 use Rattle.home.specs.Bytes.{cellAt, firstAt, manyAt, endAt}
 use Rattle.home.specs.EndLaws.{end-none, end-some}
 use Rattle.seats.specs.Seat.{cellFor, endFrom, nextZone, displaced, raised, Stacked}

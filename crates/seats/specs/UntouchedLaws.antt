@@ -8,7 +8,7 @@ use lib.ListN.{length, replicate, length-append}
 use Rattle.wire.specs.Bytes.{part, over, get16, get32, bytes16}
 use Rattle.wire.specs.BytesLaws.{length-over, length-bytes16, get16-else, get32-else}
 use Rattle.wire.specs.Cases.{by-lt}
-use Rattle.home.specs.Capacities.{cells}
+use Rattle.layout.specs.Capacities.{cells}
 use Rattle.home.specs.Bytes.{cellAt, zoneEntryAt, tagAt}
 use Rattle.home.specs.Lookup.{Ordered, rankAt, indexOf}
 use Rattle.moves.specs.Moves.{wordAt, Movable, carried, celled, moved, zoned}

@@ -1,6 +1,6 @@
 // A cell for a block, by the same rule for a new block and for one that it displaces.
 use home::AREA;
-use home::classes::cells;
+use layout::classes::cells;
 use home::lookup::zone_count;
 use home::lookup::zone_end;
 use home::lookup::zone_first;
@@ -10,7 +10,7 @@ ghost use mathlib.Core.Path.{_≡_};
 ghost use mathlib.Core.Option.{Option·getD};
 ghost use Prim.Native.Nat.{_+_, _*_, _-_, _≤_, _<_};
 ghost use lib.ListN.{length};
-ghost use Rattle.home.specs.Capacities.{cells as sizeOf};
+ghost use Rattle.layout.specs.Capacities.{cells as sizeOf};
 ghost use Rattle.wire.specs.Bytes.{isSome};
 ghost use Rattle.seats.specs.Seat.{cellFor, firstWith, endFrom, nextZone, roomOf, Seatable, seated};
 

@@ -14,8 +14,8 @@ use Rattle.wire.specs.BytesLaws.{part-of}
 use Rattle.wire.specs.Cases.{by-lt, by-eq, both, bool-iff, never, or-left, or-right, by-or}
 use Rattle.records.specs.Records.{rising, records, decode}
 use Rattle.records.specs.Edits.{decode-part}
-use Rattle.home.specs.Capacities.{capacity, under, cells, classOf}
-use Rattle.home.specs.CapacitiesLaws.{cells-is, cells-pos, cells-most, class-below, class-holds, class-over, class-within}
+use Rattle.layout.specs.Capacities.{capacity, under, cells, classOf}
+use Rattle.layout.specs.CapacitiesLaws.{cells-is, cells-pos, cells-most, class-below, class-holds, class-over, class-within}
 use Rattle.home.specs.Bytes.{cellAt, countAt, firstAt, manyAt, tagAt, entryCell, endAt}
 use Rattle.home.specs.EndLaws.{end-none, end-some}
 use Rattle.home.specs.Sound.{pagesOf, sized}

@@ -5,7 +5,7 @@ use Prim.Native.Nat.{ℕ, zero, suc, _+_, _*_, _-_, _%_}
 use lib.Dec.{leb, ltb, eqb}
 use Rattle.wire.specs.Bytes.{pick, part, get16, get32, blank}
 use Rattle.records.specs.Records.{rising, records}
-use Rattle.home.specs.Capacities.{capacity, cells, classOf}
+use Rattle.layout.specs.Capacities.{capacity, cells, classOf}
 use Rattle.home.specs.Bytes.{cellAt, countAt, firstAt, manyAt, tagAt, entryCell, endAt}
 use Rattle.home.specs.Sound.{pagesOf, sized}
 

@@ -16,16 +16,16 @@ use Rattle.wire.specs.All.{All, none, more, all-append, all-map}
 use Rattle.records.specs.Records.{rising, records}
 use Rattle.records.specs.Cells.{length-records}
 use Rattle.records.specs.Edits.{encode-records}
-use Rattle.home.specs.Capacities.{cells, capacity, classOf}
-use Rattle.home.specs.CapacitiesLaws.{class-holds}
-use Rattle.home.specs.Zones.{Block, Zone, empty, from, zone, blocks}
-use Rattle.home.specs.Perm.{In, Pairs, single, after}
-use Rattle.home.specs.Layout.{Sits, Laid, Fit, Valid}
+use Rattle.layout.specs.Capacities.{cells, capacity, classOf}
+use Rattle.layout.specs.CapacitiesLaws.{class-holds}
+use Rattle.layout.specs.Zones.{Block, Zone, empty, from, zone, blocks}
+use Rattle.layout.specs.Perm.{In, Pairs, single, after}
+use Rattle.layout.specs.Layout.{Sits, Laid, Fit, Valid}
 use Rattle.home.specs.Bytes.{blockBytes, Spot, row, spots, area, zoneEntries, Entry, entryOf, dictionary, entriesBytes, padded, encode, cellAt, zoneEntryAt, countAt, blockAt, blocksAt, firstAt, manyAt, zoneAt, zonesFrom, decode, tagAt, entryCell, entriesAt, endAt}
 use Rattle.home.specs.Sound.{pagesOf, sized, Sound}
 use Rattle.sound.specs.CheckLoopLaws.{end-inside}
 use Rattle.sound.specs.Checks.{blockFine, blocksFine, zoneFine, zonesFine, manyIn, leads, tagsFine, checked, starts}
-use Rattle.home.specs.PermLaws.{all-left, all-right, map-in}
+use Rattle.layout.specs.PermLaws.{all-left, all-right, map-in}
 use Rattle.home.specs.BytesLaws.{chop, get32-small, records-fit, bytes16-read, bytes32-read}
 use Rattle.home.specs.AreaLaws.{laid-fit, Clean}
 use Rattle.home.specs.HomeLaws.{ReadsAt, ZeroAt, length-spots}

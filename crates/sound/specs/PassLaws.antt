@@ -16,15 +16,15 @@ use Rattle.wire.specs.All.{All, more, all-map}
 use Rattle.wire.specs.Cases.{or-left, or-right}
 use Rattle.records.specs.Records.{rising, records, encode as recordBytes}
 use Rattle.records.specs.Edits.{length-encode}
-use Rattle.home.specs.Capacities.{cells, capacity, classOf}
-use Rattle.home.specs.CapacitiesLaws.{cells-pos, cells-most}
-use Rattle.home.specs.Zones.{Block, Zone, empty, from, blocks}
-use Rattle.home.specs.Perm.{In, Pairs, after}
-use Rattle.home.specs.Layout.{Sits, Laid, Fit, Valid}
+use Rattle.layout.specs.Capacities.{cells, capacity, classOf}
+use Rattle.layout.specs.CapacitiesLaws.{cells-pos, cells-most}
+use Rattle.layout.specs.Zones.{Block, Zone, empty, from, blocks}
+use Rattle.layout.specs.Perm.{In, Pairs, after}
+use Rattle.layout.specs.Layout.{Sits, Laid, Fit, Valid}
 use Rattle.home.specs.Bytes.{blockBytes, Spot, row, spots, area, zoneEntries, Entry, entryOf, dictionary, entriesBytes, padded, encode, cellAt, tagAt, entryCell, endAt}
 use Rattle.home.specs.Sound.{pagesOf, sized, Sound}
 use Rattle.sound.specs.Checks.{blockFine, blocksFine, zoneFine, zonesFine, manyIn, leads, tagsFine, checked, starts}
-use Rattle.home.specs.PermLaws.{all-left, all-right, in-map, in-all, all-in, pin}
+use Rattle.layout.specs.PermLaws.{all-left, all-right, in-map, in-all, all-in, pin}
 use Rattle.home.specs.BytesLaws.{part-join}
 use Rattle.home.specs.AreaLaws.{laid-fit, fit-le, spots-sit, Clean}
 use Rattle.home.specs.HomeLaws.{ReadsAt, ZeroAt, Entries, get16-at, block-count, block-tag, block-records, block-starts, length-entries, length-dictionary, length-entriesBytes}

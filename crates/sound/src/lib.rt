@@ -1,10 +1,10 @@
 // The test whether bytes are a sound home, in one pass over them.
 use home::AREA;
-use home::classes::capacity;
-use home::classes::cells;
-use home::classes::class_in;
-use home::classes::class_table;
-use home::classes::under;
+use layout::classes::capacity;
+use layout::classes::cells;
+use layout::classes::class_in;
+use layout::classes::class_table;
+use layout::classes::under;
 use home::lookup::zone_count;
 use home::lookup::zone_end;
 use home::lookup::zone_first;
@@ -15,7 +15,7 @@ ghost use lib.ListN.{length};
 ghost use lib.Dec.{eqb};
 ghost use Rattle.wire.specs.Bytes.{part, blank, get16};
 ghost use Rattle.records.specs.Records.{rising as ordered, records};
-ghost use Rattle.home.specs.Capacities.{capacity as capacityOf, under as underOf, cells as cellsOf, short};
+ghost use Rattle.layout.specs.Capacities.{capacity as capacityOf, under as underOf, cells as cellsOf, short};
 ghost use Rattle.home.specs.Bytes.{cellAt, tagAt};
 ghost use Rattle.home.specs.Sound.{sized as sizedOf, sound as isSound};
 ghost use Rattle.sound.specs.Checks.{blockFine, blocksFine, lies as liesIn, zoneFine, zonesFine, manyIn, tagsFine, leadsAt, entryFine};

@@ -11,14 +11,14 @@ use lib.ListN.{length, take, drop, getD, take-append-drop, drop-of-length-le, le
 use lib.Seq.{take-at, drop-at}
 use Rattle.wire.specs.Cases.{never}
 use Rattle.wire.specs.Bytes.{isSome}
-use Rattle.home.specs.Capacities.{cells, classOf}
-use Rattle.home.specs.CapacitiesLaws.{cells-mono, cells-pos}
-use Rattle.home.specs.Zones.{Block, Zone, empty, blocks, added, endOf, joined, total, afresh, layAfresh, settle}
-use Rattle.home.specs.Layout.{Valid, Loose}
-use Rattle.home.specs.Cases.{orElse, holds-some}
-use Rattle.home.specs.FindLaws.{lacks-has}
-use Rattle.home.specs.PlaceLaws.{Placed}
-use Rattle.home.specs.AfreshLaws.{afresh-length, afresh-blocks, laid-holds, fit-total}
+use Rattle.layout.specs.Capacities.{cells, classOf}
+use Rattle.layout.specs.CapacitiesLaws.{cells-mono, cells-pos}
+use Rattle.layout.specs.Zones.{Block, Zone, empty, blocks, added, endOf, joined, total, afresh, layAfresh, settle}
+use Rattle.layout.specs.Layout.{Valid, Loose}
+use Rattle.layout.specs.Cases.{orElse, holds-some}
+use Rattle.layout.specs.FindLaws.{lacks-has}
+use Rattle.layout.specs.PlaceLaws.{Placed}
+use Rattle.layout.specs.AfreshLaws.{afresh-length, afresh-blocks, laid-holds, fit-total}
 use Rattle.home.specs.Bytes.{encode, decode, firstAt, manyAt}
 use Rattle.home.specs.Sound.{pagesOf}
 use Rattle.home.specs.EncodeLaws.{decode-loose, pages-loose, valid-loose}

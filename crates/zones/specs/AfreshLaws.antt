@@ -6,14 +6,14 @@ use Prim.Native.Nat.{ℕ, suc, _+_, _*_, _≤_, _<_}
 use native.Mathlib.Omega.{arith}
 use lib.ListN.{length, take, drop, getD, take-append-drop, length-append, length-take}
 use borrow.Author.Tests.{le-leb, lt-leb}
-use Rattle.home.specs.Capacities.{cells, classOf}
-use Rattle.home.specs.CapacitiesLaws.{cells-pos}
-use Rattle.home.specs.Zones.{Block, Zone, empty, from, blocks, added, endOf, based, joined, total, afresh, layAfresh}
-use Rattle.home.specs.Perm.{Pairs}
-use Rattle.home.specs.Valid.{Other}
-use Rattle.home.specs.Layout.{Fit, Loose}
+use Rattle.layout.specs.Capacities.{cells, classOf}
+use Rattle.layout.specs.CapacitiesLaws.{cells-pos}
+use Rattle.layout.specs.Zones.{Block, Zone, empty, from, blocks, added, endOf, based, joined, total, afresh, layAfresh}
+use Rattle.layout.specs.Perm.{Pairs}
+use Rattle.layout.specs.Valid.{Other}
+use Rattle.layout.specs.Layout.{Fit, Loose}
 use Rattle.home.specs.AreaLaws.{laid-fit}
-use Rattle.home.specs.AfreshLaws.{afresh-length, afresh-blocks, joined-total, fit-seated, afresh-laid}
+use Rattle.layout.specs.AfreshLaws.{afresh-length, afresh-blocks, joined-total, fit-seated, afresh-laid}
 use Rattle.moves.specs.StepLaws.{firstOf, manyOf}
 use Rattle.moves.specs.LooseLaws.{fit-lower, fit-above, fit-joined, blocks-append}
 use Rattle.moves.specs.Stored.{endAfter}

@@ -8,12 +8,12 @@ use native.Mathlib.Omega.{arith}
 use lib.ListN.{length, drop}
 use Rattle.wire.specs.Bytes.{part, get16, get32}
 use Rattle.wire.specs.All.{all-head}
-use Rattle.home.specs.Capacities.{cells, classOf}
-use Rattle.home.specs.Zones.{Block, Zone, zone, blocks, hasTag}
-use Rattle.home.specs.Perm.{Perm, In, Pairs, after}
-use Rattle.home.specs.PermLaws.{prefl, psym, pall, pin, all-in, in-map, map-in}
-use Rattle.home.specs.Layout.{Sits, Loose}
-use Rattle.home.specs.FindLaws.{by-tag, has-here, has-skip}
+use Rattle.layout.specs.Capacities.{cells, classOf}
+use Rattle.layout.specs.Zones.{Block, Zone, zone, blocks, hasTag}
+use Rattle.layout.specs.Perm.{Perm, In, Pairs, after}
+use Rattle.layout.specs.PermLaws.{prefl, psym, pall, pin, all-in, in-map, map-in}
+use Rattle.layout.specs.Layout.{Sits, Loose}
+use Rattle.layout.specs.FindLaws.{by-tag, has-here, has-skip}
 use Rattle.home.specs.Bytes.{Spot, row, spots, Entry, entryOf, blockBytes, cellAt, countAt, tagAt, entryCell, encode, decode}
 use Rattle.home.specs.AreaLaws.{Good, spots-sit, spots-good}
 use Rattle.home.specs.HomeLaws.{ReadsAt, block-tag, block-count, block-starts}

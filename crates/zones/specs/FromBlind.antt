@@ -10,8 +10,8 @@ use lib.Seq.{ext-getD}
 use Rattle.wire.specs.Bytes.{part, over, get16, bytes16, bytes32}
 use Rattle.wire.specs.BytesLaws.{length-over, over-low, over-high, length-part, part-at, part-over, length-bytes16, over-at, over-comm}
 use Rattle.wire.specs.Cases.{by-within}
-use Rattle.home.specs.Capacities.{cells, classOf}
-use Rattle.home.specs.Cases.{Holds, holds-under, map-swap}
+use Rattle.layout.specs.Capacities.{cells, classOf}
+use Rattle.layout.specs.Cases.{Holds, holds-under, map-swap}
 use Rattle.home.specs.Bytes.{cellAt, zoneEntryAt, firstAt, manyAt, endAt}
 use Rattle.home.specs.Lookup.{indexOf}
 use Rattle.moves.specs.Moves.{wordAt, counted, entered, zoned}

@@ -8,9 +8,9 @@ use native.Mathlib.Omega.{arith}
 use native.Mathlib.Numerals.{add-one}
 use lib.ListN.{length}
 use Rattle.wire.specs.Bytes.{over, isSome}
-use Rattle.home.specs.Capacities.{cells, classOf}
-use Rattle.home.specs.CapacitiesLaws.{cells-mono, class-below as class-most, class-holds}
-use Rattle.home.specs.Cases.{Holds}
+use Rattle.layout.specs.Capacities.{cells, classOf}
+use Rattle.layout.specs.CapacitiesLaws.{cells-mono, class-below as class-most, class-holds}
+use Rattle.layout.specs.Cases.{Holds}
 use Rattle.home.specs.Bytes.{cellAt, firstAt, manyAt, endAt}
 use Rattle.seats.specs.declared.Room.{Room}
 use Rattle.seats.specs.declared.Room.the-variants.{At, Nowhere}

@@ -8,14 +8,14 @@ use native.Mathlib.Omega.{arith}
 use native.Mathlib.Numerals.{add-one}
 use lib.ListN.{length, take, length-append}
 use Rattle.wire.specs.Bytes.{Bytes, isSome}
-use Rattle.home.specs.Capacities.{cells, classOf}
-use Rattle.home.specs.CapacitiesLaws.{cells-mono, cells-pos, class-below as class-most}
-use Rattle.home.specs.Zones.{Block, Zone, blocks, added, endOf, shift, place}
-use Rattle.home.specs.PermLaws.{plength}
-use Rattle.home.specs.Layout.{Sits, Fit, Valid, Loose}
-use Rattle.home.specs.Cases.{Holds, map-twice}
-use Rattle.home.specs.FindLaws.{Lacks, lacks-has}
-use Rattle.home.specs.PlaceLaws.{place-valid}
+use Rattle.layout.specs.Capacities.{cells, classOf}
+use Rattle.layout.specs.CapacitiesLaws.{cells-mono, cells-pos, class-below as class-most}
+use Rattle.layout.specs.Zones.{Block, Zone, blocks, added, endOf, shift, place}
+use Rattle.layout.specs.PermLaws.{plength}
+use Rattle.layout.specs.Layout.{Sits, Fit, Valid, Loose}
+use Rattle.layout.specs.Cases.{Holds, map-twice}
+use Rattle.layout.specs.FindLaws.{Lacks, lacks-has}
+use Rattle.layout.specs.PlaceLaws.{place-valid}
 use Rattle.home.specs.Bytes.{encode, decode, firstAt, manyAt, blockBytes, endAt}
 use Rattle.home.specs.Sound.{pagesOf}
 use Rattle.home.specs.LookupLoopLaws.{sound-ordered}

@@ -6,10 +6,10 @@ use Prim.Native.Nat.{ℕ, zero, suc, _+_, _*_, _≤_}
 use lib.Dec.{ltb}
 use lib.ListN.{length, take, drop, replicate}
 use Rattle.wire.specs.Bytes.{pick, over}
-use Rattle.home.specs.Capacities.{cells}
-use Rattle.home.specs.Zones.{Block, Zone, empty, from, zone, blocks, hasTag, removed}
+use Rattle.layout.specs.Capacities.{cells}
+use Rattle.layout.specs.Zones.{Block, Zone, empty, from, zone, blocks, hasTag, removed}
 use Rattle.home.specs.Bytes.{encode, cellAt}
-use Rattle.home.specs.Layout.{Loose}
+use Rattle.layout.specs.Layout.{Loose}
 use Rattle.moves.specs.Moves.{moved}
 use Rattle.moves.specs.Close.{zoneOf}
 

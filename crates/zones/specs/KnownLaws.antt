@@ -9,9 +9,9 @@ use borrow.Author.Tests.{eq-eqb, ne-eqb}
 use Rattle.wire.specs.Cases.{by-test, never}
 use Rattle.wire.specs.All.{more}
 use Rattle.records.specs.declared.Record.{Record}
-use Rattle.home.specs.Capacities.{cells}
-use Rattle.home.specs.Zones.{Block, Zone, empty, from, zone, blocks, hasTag, find, turned, removed, replaced, rewritten, endOf, close, takeOut}
-use Rattle.home.specs.FindLaws.{Lacks, by-tag, has-here, has-skip, has-append, lacks-has, find-here, find-later}
+use Rattle.layout.specs.Capacities.{cells}
+use Rattle.layout.specs.Zones.{Block, Zone, empty, from, zone, blocks, hasTag, find, turned, removed, replaced, rewritten, endOf, close, takeOut}
+use Rattle.layout.specs.FindLaws.{Lacks, by-tag, has-here, has-skip, has-append, lacks-has, find-here, find-later}
 use Rattle.moves.specs.Stored.{endAfter}
 use Rattle.moves.specs.LooseLaws.{blocks-append, zone-blocks}
 use Rattle.zones.specs.Known.{Located, lacking}

@@ -9,15 +9,15 @@ use lib.ListN.{length, getD, take, length-append, replicate}
 use borrow.Author.Tests.{lt-ltb, le-ltb}
 use Rattle.wire.specs.Bytes.{over, get16}
 use Rattle.wire.specs.All.{all-tail}
-use Rattle.home.specs.Capacities.{cells}
-use Rattle.home.specs.CapacitiesLaws.{cells-pos}
-use Rattle.home.specs.Zones.{Block, Zone, empty, zone, blocks, hasTag, lastOf, initOf, turned, endOf, close, takeOut}
-use Rattle.home.specs.Perm.{Perm, pskip, ptrans, Pairs}
-use Rattle.home.specs.PermLaws.{psym, pleft, pright, pfront, plength, pall, pairs-tail}
-use Rattle.home.specs.FindLaws.{pdistinct}
-use Rattle.home.specs.TakeLaws.{turned-perm}
-use Rattle.home.specs.Valid.{Other}
-use Rattle.home.specs.Layout.{Sits, Fit, Loose}
+use Rattle.layout.specs.Capacities.{cells}
+use Rattle.layout.specs.CapacitiesLaws.{cells-pos}
+use Rattle.layout.specs.Zones.{Block, Zone, empty, zone, blocks, hasTag, lastOf, initOf, turned, endOf, close, takeOut}
+use Rattle.layout.specs.Perm.{Perm, pskip, ptrans, Pairs}
+use Rattle.layout.specs.PermLaws.{psym, pleft, pright, pfront, plength, pall, pairs-tail}
+use Rattle.layout.specs.FindLaws.{pdistinct}
+use Rattle.layout.specs.TakeLaws.{turned-perm}
+use Rattle.layout.specs.Valid.{Other}
+use Rattle.layout.specs.Layout.{Sits, Fit, Loose}
 use Rattle.home.specs.Sound.{pagesOf}
 use Rattle.home.specs.Bytes.{row, spots, encode, decode, cellAt, firstAt, manyAt}
 use Rattle.home.specs.AreaLaws.{fit-le}

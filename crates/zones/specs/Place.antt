@@ -7,8 +7,8 @@ use Prim.Native.Nat.{ℕ, _+_, _*_, _-_, _/_, _≤_, _<_}
 use lib.ListN.{length, replicate}
 use Rattle.wire.specs.Bytes.{over, get16, bytes16, bytes32}
 use Rattle.records.specs.Records.{rising, decode as recordsIn}
-use Rattle.home.specs.Capacities.{cells, classOf}
-use Rattle.home.specs.Zones.{Block, Zone, blocks, hasTag, place}
+use Rattle.layout.specs.Capacities.{cells, classOf}
+use Rattle.layout.specs.Zones.{Block, Zone, blocks, hasTag, place}
 use Rattle.home.specs.Bytes.{decode, cellAt, firstAt, manyAt, endAt}
 use Rattle.home.specs.Sound.{pagesOf, sound}
 use Rattle.home.specs.Lookup.{Ordered}

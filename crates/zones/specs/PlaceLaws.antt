@@ -12,11 +12,11 @@ use Rattle.records.specs.declared.Record.{Record}
 use Rattle.records.specs.Records.{encode as recordBytes, decode as recordsIn}
 use Rattle.records.specs.Cells.{length-records}
 use Rattle.records.specs.Edits.{length-encode, encode-decode as bytes-back}
-use Rattle.home.specs.Capacities.{capacity, cells, classOf}
-use Rattle.home.specs.CapacitiesLaws.{class-below as class-most, class-holds}
-use Rattle.home.specs.Zones.{Block, Zone, empty, from, blocks, added, endOf}
-use Rattle.home.specs.Layout.{Sits, Fit, Loose}
-use Rattle.home.specs.PlaceLaws.{length-snoc}
+use Rattle.layout.specs.Capacities.{capacity, cells, classOf}
+use Rattle.layout.specs.CapacitiesLaws.{class-below as class-most, class-holds}
+use Rattle.layout.specs.Zones.{Block, Zone, empty, from, blocks, added, endOf}
+use Rattle.layout.specs.Layout.{Sits, Fit, Loose}
+use Rattle.layout.specs.PlaceLaws.{length-snoc}
 use Rattle.home.specs.Lookup.{Ordered}
 use Rattle.home.specs.AreaLaws.{fit-le}
 use Rattle.home.specs.HomeLaws.{length-dictionary}

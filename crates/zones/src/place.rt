@@ -1,7 +1,7 @@
 // A block placed, from a class up given the end of the zones below it.
 use home::AREA;
-use home::classes::cells;
-use home::classes::class_of;
+use layout::classes::cells;
+use layout::classes::class_of;
 use home::lookup::zone_count;
 use home::lookup::zone_first;
 use moves::insert_entry;
@@ -15,7 +15,7 @@ ghost use mathlib.Core.Option.{Option·getD};
 ghost use Prim.Native.Nat.{_+_, _*_, _≤_, _<_};
 ghost use lib.ListN.{length};
 ghost use Rattle.wire.specs.Bytes.{over, isSome};
-ghost use Rattle.home.specs.Capacities.{cells as sizeOf};
+ghost use Rattle.layout.specs.Capacities.{cells as sizeOf};
 ghost use Rattle.home.specs.Bytes.{cellAt};
 ghost use Rattle.home.specs.Sound.{pagesOf};
 ghost use Rattle.moves.specs.Stored.{settled};

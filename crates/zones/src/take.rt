@@ -1,6 +1,6 @@
 // A block taken out.
 use home::AREA;
-use home::classes::cells;
+use layout::classes::cells;
 use home::lookup::zone_count;
 use home::lookup::zone_first;
 use moves::close::close_up;
@@ -11,8 +11,8 @@ use seats::end_from;
 ghost use mathlib.Core.Path.{_≡_};
 ghost use Prim.Native.Nat.{_+_, _*_, _≤_, _<_};
 ghost use lib.ListN.{length};
-ghost use Rattle.home.specs.Capacities.{cells as sizeOf};
-ghost use Rattle.home.specs.Zones.{takeOut};
+ghost use Rattle.layout.specs.Capacities.{cells as sizeOf};
+ghost use Rattle.layout.specs.Zones.{takeOut};
 ghost use Rattle.home.specs.Bytes.{cellAt, encode, decode};
 ghost use Rattle.home.specs.Sound.{pagesOf};
 ghost use Rattle.moves.specs.Moves.{Movable};

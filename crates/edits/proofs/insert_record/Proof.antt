@@ -3,8 +3,8 @@ use mathlib.Core.Logic.{_≢_}
 use Prim.Native.Nat.{ℕ, _+_, _<_}
 use native.Mathlib.Omega.{arith}
 use borrow.Author.Tests.{not-true, not-false}
-use Rattle.home.specs.Capacities.{classOf}
-use Rattle.home.specs.CapacitiesLaws.{class-below, class-stays, class-leaves}
+use Rattle.layout.specs.Capacities.{classOf}
+use Rattle.layout.specs.CapacitiesLaws.{class-below, class-stays, class-leaves}
 use Rattle.lists.specs.ListedLaws.{listed-most}
 use Rattle.lists.specs.RecordLaws.{missing-under, in-inside, in-here}
 use Rattle.edits.specs.Edits.{fitsAfter}
@@ -14,8 +14,8 @@ use Rattle.edits.proofs.insert_record.Statement.{statement}
 use Rattle.edits.proofs.insert_record.Tie as tie
 use Rattle.edits.proofs.insert_record.Reads as reads
 use Rattle.edits.proofs.insert_record.Lts as lts
-use Rattle.home.proofs.classes.class_of.Reads as class-of-reads
-use Rattle.home.proofs.classes.capacity.Reads as capacity-reads
+use Rattle.layout.proofs.classes.class_of.Reads as class-of-reads
+use Rattle.layout.proofs.classes.capacity.Reads as capacity-reads
 use Rattle.moves.specs.LooseLaws.{sound-stored}
 use Rattle.lists.proofs.here.insert_here.Reads as insert-here-reads
 use Rattle.lists.proofs.change.insert_moving.Reads as insert-moving-reads

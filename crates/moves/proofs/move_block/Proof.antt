@@ -2,7 +2,7 @@ use native.Mathlib.Omega.{arith}
 use mathlib.Core.Path.{ap}
 use Rattle.home.specs.Lookup.{indexOf}
 use lib.ListN.{length}
-use Rattle.home.specs.CapacitiesLaws.{cells-pos}
+use Rattle.layout.specs.CapacitiesLaws.{cells-pos}
 use Rattle.moves.specs.MovesLaws.{moved-is}
 use borrow.Author.Needs.{needs}
 use Rattle.moves.proofs.move_block.Statement.{statement}

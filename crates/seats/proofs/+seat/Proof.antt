@@ -8,7 +8,7 @@ use borrow.Fn.PlainCycle.{Measures, is, falls, and}
 use Rattle.seats.proofs.seat.Reads as seat
 use Rattle.seats.proofs.seat.Kinds as seat-kinds
 use Rattle.seats.proofs.+seat.Lts-seat as seat-lts
-use Rattle.home.proofs.classes.cells.Reads as cells-reads
+use Rattle.layout.proofs.classes.cells.Reads as cells-reads
 use Rattle.home.proofs.lookup.zone_count.Reads as zone-count-reads
 use Rattle.home.proofs.lookup.zone_first.Reads as zone-first-reads
 use Rattle.moves.proofs.move_block.Reads as move-block-reads

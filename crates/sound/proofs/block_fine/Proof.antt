@@ -1,7 +1,7 @@
 use mathlib.Core.Path.{sym, _∙_}
 use native.Mathlib.Omega.{arith}
 use borrow.Author.Tests.{not-true, not-false}
-use Rattle.home.specs.CapacitiesLaws.{cells-is, cells-pos, cells-most}
+use Rattle.layout.specs.CapacitiesLaws.{cells-is, cells-pos, cells-most}
 use Rattle.sound.specs.CheckLoopLaws.{block-few, block-much, block-head, block-order, block-rest}
 use borrow.Author.Needs.{needs}
 use Rattle.sound.proofs.block_fine.Statement.{statement}

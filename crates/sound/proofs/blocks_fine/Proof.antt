@@ -3,8 +3,8 @@ use native.Mathlib.Omega.{arith}
 use borrow.Author.Tests.{not-true, not-false}
 use Prim.Native.Nat.{_+_, _*_, _≤_}
 use lib.ListN.{length}
-use Rattle.home.specs.Capacities.{capacity, under, cells}
-use Rattle.home.specs.CapacitiesLaws.{cells-is}
+use Rattle.layout.specs.Capacities.{capacity, under, cells}
+use Rattle.layout.specs.CapacitiesLaws.{cells-is}
 use Rattle.home.specs.Bytes.{cellAt}
 use Rattle.sound.specs.Checks.{blocksFine}
 use Rattle.sound.specs.CheckLoopLaws.{times-turn, blocks-turn, blocks-stop, blocks-end}

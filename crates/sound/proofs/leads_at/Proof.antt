@@ -1,7 +1,7 @@
 use mathlib.Core.Path.{refl}
 use native.Mathlib.Omega.{arith}
 use Rattle.home.specs.Bytes.{countAt}
-use Rattle.home.specs.CapacitiesLaws.{class-below}
+use Rattle.layout.specs.CapacitiesLaws.{class-below}
 use Rattle.home.specs.EndLaws.{zone-fits}
 use Rattle.sound.specs.CheckLoopLaws.{leads-beyond, leads-much, leads-early, leads-late, leads-there}
 use borrow.Author.Needs.{needs}

@@ -2,7 +2,7 @@ use Prim.Native.Nat.{_+_, _*_, _≤_}
 use lib.ListN.{length}
 use Rattle.home.specs.Bytes.{cellAt}
 use mathlib.Core.Path.{refl, sym, _∙_}
-use Rattle.home.specs.Capacities.{cells}
+use Rattle.layout.specs.Capacities.{cells}
 use native.Mathlib.Omega.{arith}
 use borrow.Author.Tests.{not-true, not-false}
 use Rattle.sound.specs.CheckLoopLaws.{zone-empty, zone-astray, zone-lies, zone-gap, zone-rest}

@@ -2,7 +2,7 @@ use mathlib.Core.Path.{_≡_, _∙_}
 use mathlib.Core.List.{List}
 use Prim.Native.Nat.{ℕ, _<_}
 use native.Mathlib.Omega.{arith}
-use Rattle.home.specs.CapacitiesLaws.{class-below, class-kept, class-lost}
+use Rattle.layout.specs.CapacitiesLaws.{class-below, class-kept, class-lost}
 use Rattle.lists.specs.Listed.{Listed}
 use Rattle.lists.specs.ListedLaws.{listed-known, listed-some, listed-most, listed-inside}
 use Rattle.lists.specs.RecordLaws.{ranked-under, out-last, out-here}

@@ -2,7 +2,7 @@ use native.Mathlib.Omega.{arith}
 use mathlib.Core.Path.{_≡_, refl, sym, _∙_}
 use Prim.Native.Nat.{_+_, _*_, _≤_, _<_}
 use lib.ListN.{length}
-use Rattle.home.specs.CapacitiesLaws.{cells-pos}
+use Rattle.layout.specs.CapacitiesLaws.{cells-pos}
 use Rattle.moves.specs.CloseLaws.{zone-none}
 use Rattle.moves.specs.CloseCode.{end-small, Lowering, open-small, open-long, lower-requires, lower-next, lower-done}
 use borrow.Author.Needs.{needs}

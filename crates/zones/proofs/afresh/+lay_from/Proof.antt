@@ -8,7 +8,7 @@ use borrow.Author.Needs.{needs}
 use Rattle.zones.proofs.afresh.lay_from.Reads as lay-from
 use Rattle.zones.proofs.afresh.lay_from.Kinds as lay-from-kinds
 use Rattle.zones.proofs.afresh.+lay_from.Lts-lay_from as lay-from-lts
-use Rattle.home.proofs.classes.cells.Reads as cells-reads
+use Rattle.layout.proofs.classes.cells.Reads as cells-reads
 use Rattle.home.proofs.lookup.zone_count.Reads as zone-count-reads
 use Rattle.home.proofs.lookup.zone_first.Reads as zone-first-reads
 use Rattle.moves.proofs.slide.slide.Reads as slide-reads

@@ -1,7 +1,7 @@
 use Prim.Native.Nat.{_+_, _*_, _≤_}
 use native.Mathlib.Omega.{arith}
-use Rattle.home.specs.Capacities.{cells}
-use Rattle.home.specs.Zones.{total}
+use Rattle.layout.specs.Capacities.{cells}
+use Rattle.layout.specs.Zones.{total}
 use Rattle.home.specs.Bytes.{decode}
 use Rattle.home.specs.Sound.{pagesOf}
 use Rattle.moves.specs.LooseLaws.{stored-long, sound-stored}
@@ -12,8 +12,8 @@ use Rattle.zones.proofs.afresh.lay_afresh.Statement.{statement}
 use Rattle.zones.proofs.afresh.lay_afresh.Tie as tie
 use Rattle.zones.proofs.afresh.lay_afresh.Reads as reads
 use Rattle.zones.proofs.afresh.lay_afresh.Lts as lts
-use Rattle.home.proofs.classes.cells.Reads as cells-reads
-use Rattle.home.proofs.classes.class_of.Reads as class-of-reads
+use Rattle.layout.proofs.classes.cells.Reads as cells-reads
+use Rattle.layout.proofs.classes.class_of.Reads as class-of-reads
 use Rattle.zones.proofs.afresh.total.Reads as total-reads
 use Rattle.zones.proofs.afresh.lay_below.Reads as lay-below-reads
 use Rattle.zones.proofs.afresh.lay_from.Reads as lay-from-reads

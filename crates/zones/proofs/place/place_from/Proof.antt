@@ -6,7 +6,7 @@ use Rattle.zones.proofs.place.place_from.Statement.{statement}
 use Rattle.zones.proofs.place.place_from.Tie as tie
 use Rattle.zones.proofs.place.place_from.Reads as reads
 use Rattle.zones.proofs.place.place_from.Lts as lts
-use Rattle.home.proofs.classes.class_of.Reads as class-of-reads
+use Rattle.layout.proofs.classes.class_of.Reads as class-of-reads
 use Rattle.home.proofs.lookup.zone_count.Reads as zone-count-reads
 use Rattle.home.proofs.lookup.zone_first.Reads as zone-first-reads
 use Rattle.seats.proofs.end_from.Reads as end-from-reads

@@ -1,0 +1,2 @@
+// The layout: blocks in zones by class, and how they move.
+pub mod classes;
