@@ -5,7 +5,7 @@ use mathlib.Core.List.{List, [], _∷_, map}
 use Prim.Native.Nat.{ℕ, _+_}
 use native.Mathlib.Omega.{arith}
 use lib.ListN.{replicate, length-replicate}
-use Rattle.wire.specs.Bytes.{pick, part, over, get16, get32, bytes16, bytes32, equal, blank}
+use Rattle.wire.specs.Bytes.{zerosBut, pick, part, over, get16, get32, bytes16, bytes32, equal, blank}
 use Rattle.wire.specs.Cases.{by-test}
 use Rattle.wire.specs.Rules.{first, answered, left}
 use Rattle.records.specs.declared.Record.{Record}
@@ -16,13 +16,13 @@ use Rattle.redo.specs.Entry.{Entry, entry, entries, rising, changes, logged, re
 use Rattle.redo.specs.Stores.{clearMark, recoverStores, logStores, commitStores}
 use Rattle.log.specs.declared.Outcome.{Outcome}
 use Rattle.log.specs.declared.Outcome.the-variants.{Done, Cut, Refused as CommitRefused}
-use Rattle.log.specs.Calls.{Plan, answer, after, formatRules, formatPlan, logOk, recoverRules, recoverPlan, changedPages, commitRules, commitPlan}
+use Rattle.log.specs.Calls.{Plan, answer, after, logOk, recoverRules, recoverPlan, changedPages, commitRules, commitPlan, formattable}
 use Rattle.log.specs.FormatLaws.{format-done}
 use Rattle.layout.specs.Capacities.{capacity, cells, classOf}
 use Rattle.layout.specs.Zones.{find, blocks, hasTag, rewritten, place, takeOut, settle, change}
 use Rattle.layout.specs.Sizes.{totalAfter}
 use Rattle.layout.specs.Valid.{valid}
-use Rattle.home.specs.Bytes.{Spot, spots, encode, decode, zonesFrom}
+use Rattle.home.specs.Bytes.{stepOf, Spot, spots, encode, decode, zonesFrom}
 use Rattle.home.specs.Sound.{sound, sized, listOf}
 use Rattle.layout.specs.Edits.{put, delete, dropTag}
 use Rattle.home.specs.declared.Answer.{Answer}
@@ -33,7 +33,8 @@ use Rattle.gates.specs.Gates.{gateRules, homeIn}
 use Rattle.reads.specs.Reads.{countIn}
 use Rattle.index.specs.declared.Begun.{Begun}
 use Rattle.index.specs.declared.Begun.the-variants.{Done as BeginDone, Refused as BeginRefused}
-use Rattle.index.specs.Calls.{beginCall, putCall, deleteCall, dropCall}
+use Rattle.index.specs.Calls.{beginCall, putCall, deleteCall, dropCall, formatRules, formatPlan}
+use Rattle.index.specs.FormatLaws.{format-coded}
 
 -- ---- what a row says
 
@@ -95,11 +96,11 @@ lent = replicate 1792 255
 
 -- "a fresh image": what format leaves
 unfoldable pub fresh : ℕ → List ℕ
-fresh L = after (formatPlan (used L) L 2) (imageLength L 2 + 1) (used L)
+fresh L = after (formatPlan (used L) L 2 0) (imageLength L 2 + 1) (used L)
 
 -- a workspace's blocks
 unfoldable pub laid : List ℕ → List Lies
-laid w = map (λ (s : Spot). lies (s .block .tag) (s .cell) (s .class)) (spots 0 (decode w))
+laid w = map (λ (s : Spot). lies (s .block .tag) (s .cell) (s .class)) (spots (stepOf w) 0 (decode w))
 
 -- an image after a recovery with stores enough
 unfoldable pub mended : List ℕ → List ℕ
@@ -204,21 +205,21 @@ table = follow fresh expected nothing
 -- ---- the proof: what format leaves is known by law, without its stores; all else is computed
 
 quick : ℕ → List ℕ
-quick L = pick (inRange L 2) (emptyImage L 2) (used L)
+quick L = pick (inRange L 2) (emptyImage L 2 122 0) (used L)
 
 formats : (L : ℕ) → inRange L 2 ≡ true → fresh L ≡ quick L
 unfolding fresh quick used
-formats L t = rw t (format-done (used L) L 2 t (length-replicate (imageLength L 2) 255) (imageLength L 2 + 1) (omega arith))
+formats L t = rw (t, format-coded (used L) L 2 0 (omega arith)) (format-done (used L) L 2 122 0 (omega arith) t (length-replicate (imageLength L 2) 255) (imageLength L 2 + 1) (omega arith))
 
 refuses : (L : ℕ) → inRange L 2 ≡ false → fresh L ≡ quick L
-unfolding fresh quick first formatRules formatPlan after
+unfolding fresh quick first formattable formatRules formatPlan after
 refuses L t = rw t
 
 formatted : (L : ℕ) → fresh L ≡ quick L
 formatted L = by-test (inRange L 2) (formats L) (refuses L)
 
 computed : follow quick expected nothing ≡ expected
-unfolding expected follow next result laid which mended seen quick used lent of putCall deleteCall dropCall countIn beginCall gateRules homeIn first letters home inRange headOk entry entries rising changes logged replay answer after headPage emptyImage clearMark recoverStores logOk recoverRules recoverPlan logStores commitStores commitRules commitPlan apply run sized sound listOf valid decode zonesFrom encode spots settled put delete dropTag totalAfter change settle place takeOut rewritten hasTag find blocks classOf capacity cells key look insert remove risingFrom bytesOf recordAt records part over get16 get32 bytes16 bytes32 equal blank
+unfolding expected follow next result laid which mended seen quick used lent of putCall deleteCall dropCall countIn beginCall gateRules homeIn first letters home inRange headOk entry entries rising changes logged replay answer after headPage emptyImage zerosBut clearMark recoverStores logOk recoverRules recoverPlan logStores commitStores commitRules commitPlan apply run sized sound listOf valid decode zonesFrom encode spots settled put delete dropTag totalAfter change settle place takeOut rewritten hasTag find blocks classOf capacity cells key look insert remove risingFrom bytesOf recordAt records part over get16 get32 bytes16 bytes32 equal blank
 computed = refl
 
 pub cases : table ≡ expected

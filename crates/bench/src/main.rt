@@ -1,6 +1,6 @@
 // Runs the specification's bench cases 1 to 12 on the calls of the index and prints what is seen: answers,
 // each block's cell and class as dictionary and zones have them, pages that differ, stores, and which home a
-// recovery finds.
+// recovery finds. Then cases 1 to 7 again with step code 1, and a list that grows there until nothing is left.
 use gates::Of;
 use home::Answer;
 use index::Begun;
@@ -73,11 +73,20 @@ fn get32(s: &[u8], at: usize) -> u32 {
     }
 }
 
+fn step_of(space: &[u8]) -> usize {
+    if 122 < space.len() {
+        wire::get8(space, 122)
+    } else {
+        0
+    }
+}
+
 // Whether a cell is in the zone of class c.
 fn in_zone(space: &[u8], c: usize, cell: usize) -> bool {
     if c < 30 {
         let first = get16(space, 2 + 4 * c);
-        first <= cell && (cell - first) / layout::classes::cells(c) < get16(space, 4 + 4 * c)
+        let size = layout::classes::cells(step_of(space), c);
+        first <= cell && (cell - first) / size < get16(space, 4 + 4 * c)
     } else {
         false
     }
@@ -173,14 +182,31 @@ fn begin(image: &[u8], space: &mut [u8]) {
     word(b"\n");
 }
 
-// A fresh image and its workspace.
-fn start(case: usize, image: &mut [u8], space: &mut [u8], capacity: usize, pages: usize) {
+fn format(case: usize, image: &mut [u8], capacity: usize, pages: usize) {
     begin_line(case, b"format ");
     number(capacity);
     word(b", ");
     number(pages);
     word(b": ");
-    outcome(index::format(image, capacity, pages, 100000));
+    outcome(index::format(image, capacity, pages, 0, 100000));
+}
+
+// A fresh image and its workspace.
+fn start(case: usize, image: &mut [u8], space: &mut [u8], capacity: usize, pages: usize) {
+    format(case, image, capacity, pages);
+    begin(image, space);
+}
+
+// With this step code.
+fn format_step(case: usize, image: &mut [u8], step: usize) {
+    begin_line(case, b"format 28, 2, step ");
+    number(step);
+    word(b": ");
+    outcome(index::format(image, 28, 2, step, 100000));
+}
+
+fn start_coarse(case: usize, image: &mut [u8], space: &mut [u8]) {
+    format_step(case, image, 1);
     begin(image, space);
 }
 
@@ -333,6 +359,38 @@ fn case_12(image: &mut [u8], space: &mut [u8]) {
     word(b"\n");
 }
 
+// ---- step code 1
+
+// A list outgrows its block.
+fn outgrow(space: &mut [u8]) {
+    put(13, space, 7, 1);
+    put(13, space, 9, 1);
+    put(13, space, 7, 2);
+    put(13, space, 7, 3);
+    put(13, space, 7, 4);
+    put(13, space, 7, 5);
+}
+
+// Its next block takes two records more. Neither a new tag nor an eighth record has room.
+fn case_13(space: &mut [u8]) {
+    outgrow(space);
+    put(13, space, 11, 1);
+    put(13, space, 7, 6);
+    put(13, space, 7, 7);
+    put(13, space, 7, 8);
+}
+
+fn coarse(image: &mut [u8], space: &mut [u8]) {
+    start_coarse(1, image, space);
+    cases_1_to_4(space);
+    cases_5_and_6(space);
+    case_7(space);
+    start_coarse(13, image, space);
+    case_13(space);
+    format_step(14, image, 2);
+    word(b"\n");
+}
+
 fn main() {
     let mut image = [0u8; 3704];
     let mut space = [0u8; 1792];
@@ -345,4 +403,5 @@ fn main() {
     case_10(&mut space);
     case_11();
     case_12(&mut image, &mut space);
+    coarse(&mut image, &mut space);
 }

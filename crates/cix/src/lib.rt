@@ -11,12 +11,12 @@ use records::Record;
 ghost use mathlib.Core.Path.{_≡_};
 ghost use Prim.Native.Nat.{_+_, _*_, _<_};
 ghost use Rattle.wire.specs.Rules.{answered, left};
-ghost use Rattle.log.specs.Calls.{answer, after, formatPlan, recoverPlan, commitPlan};
+ghost use Rattle.log.specs.Calls.{answer, after, recoverPlan, commitPlan};
 ghost use Rattle.records.specs.Records.{key};
 ghost use Rattle.home.specs.Sound.{sound as isSound};
 ghost use Rattle.reads.specs.Reads.{countIn};
 ghost use Rattle.reads.specs.Merges.{mergeIn};
-ghost use Rattle.index.specs.Calls.{beginCall, putCall, deleteCall, setCall, dropCall};
+ghost use Rattle.index.specs.Calls.{beginCall, putCall, deleteCall, setCall, dropCall, formatPlan};
 ghost use Rattle.cix.specs.Numbers.{ofAnswer, ofBegun, ofOutcome, Fits, call as callOf};
 ghost use Rattle.cix.specs.Places.{spanIn};
 
@@ -56,13 +56,25 @@ fn of_outcome(o: Outcome) -> u64
     }
 }
 
-// Makes the image an empty index with room for that many log entries and record pages.
+// Makes the image an empty index with room for that many log entries and record pages, of this step code.
 #[no_mangle]
-pub extern "C" fn cix_format(image: &mut [u8], entries: u32, pages: u32, stores: u32) -> u64
-    ensures { λ r. ⌜ r ≡ ofOutcome (answer (formatPlan (now (image .entry)) entries pages) stores) ⌝ }
-    ensures { λ _. ⌜ now (image .exit) ≡ after (formatPlan (now (image .entry)) entries pages) stores (now (image .entry)) ⌝ }
+pub extern "C" fn cix_format(
+    image: &mut [u8],
+    entries: u32,
+    pages: u32,
+    step: u32,
+    stores: u32,
+) -> u64
+    ensures { λ r. ⌜ r ≡ ofOutcome (answer (formatPlan (now (image .entry)) entries pages step) stores) ⌝ }
+    ensures { λ _. ⌜ now (image .exit) ≡ after (formatPlan (now (image .entry)) entries pages step) stores (now (image .entry)) ⌝ }
 {
-    let o = index::format(image, entries as usize, pages as usize, stores as usize);
+    let o = index::format(
+        image,
+        entries as usize,
+        pages as usize,
+        step as usize,
+        stores as usize,
+    );
     of_outcome(o)
 }
 

@@ -4,7 +4,7 @@ use mathlib.Core.Bool.{true}
 use Prim.Native.Nat.{ℕ, _*_}
 use mathlib.Core.List.{List, [], _∷_, map}
 use lib.ListN.{set, getD, replicate}
-use Rattle.wire.specs.Bytes.{over, equal, part, get16, bytes16, blank}
+use Rattle.wire.specs.Bytes.{zerosBut, over, equal, part, get16, bytes16, blank}
 use Rattle.wire.specs.Rules.{first}
 use Rattle.redo.specs.Store.{apply, run, halfway}
 use Rattle.redo.specs.Image.{letters, mark, home, inRange, headOk, headPage, emptyImage}
@@ -16,7 +16,7 @@ use Rattle.log.specs.Calls.{answer, after, logOk, recoverRules, recoverPlan, co
 use Rattle.log.specs.Book.{Call, commit, recover, allowance, value, planOf, rest, caught, Seen, seen, trace, final, Book, start, differing, bookRules, judge, commitNeed, needBy, recoverNeed, report, answerTo, logs, toldMark, recovering, committing, bookAt, foretold, next, bookAfter}
 
 image : List ℕ
-image = emptyImage 1 1
+image = emptyImage 1 1 0 0
 
 one : List ℕ
 one = set (replicate (64 * 27) 0) 5 7
@@ -92,5 +92,5 @@ examples :
     × (said (commit one 133 0 ∷ clear) ≡ Cut 133 ∷ Done 134 ∷ [])
     × (said (commit one 69 1 ∷ recover 64 0 ∷ clear) ≡ Cut 69 ∷ Cut 64 ∷ Done 134 ∷ [])
     × (said (commit one 68 9 ∷ recover 0 0 ∷ commit one 134 0 ∷ []) ≡ Cut 68 ∷ Cut 0 ∷ Done 134 ∷ [])
-unfolding clear ends said book found set165 set9 set0 through9 home77 last9 image one first answer after apply run letters home inRange headOk entry entries rising changes logged replay headPage emptyImage clearMark recoverStores logOk recoverRules recoverPlan logStores commitStores commitRules commitPlan over equal part get16 bytes16 blank halfway allowance value planOf rest caught seen trace final start differing bookRules judge commitNeed needBy recoverNeed report answerTo logs toldMark recovering committing bookAt foretold next bookAfter
+unfolding clear ends said book found set165 set9 set0 through9 home77 last9 image one first answer after apply run letters home inRange headOk entry entries rising changes logged replay headPage emptyImage zerosBut clearMark recoverStores logOk recoverRules recoverPlan logStores commitStores commitRules commitPlan over equal part get16 bytes16 blank halfway allowance value planOf rest caught seen trace final start differing bookRules judge commitNeed needBy recoverNeed report answerTo logs toldMark recovering committing bookAt foretold next bookAfter
 examples = (refl, refl, refl, refl, refl, refl, refl, refl, refl, refl, refl, refl, refl, refl, refl, refl, refl, refl, refl, refl, refl, refl, refl, refl, refl, refl)

@@ -4,7 +4,7 @@ use mathlib.Core.Bool.{true}
 use Prim.Native.Nat.{ℕ, _*_}
 use mathlib.Core.List.{List, []}
 use lib.ListN.{length, drop, set, replicate}
-use Rattle.wire.specs.Bytes.{over, equal, part, get16, bytes16, blank}
+use Rattle.wire.specs.Bytes.{zerosBut, over, equal, part, get16, bytes16, blank}
 use Rattle.wire.specs.Rules.{first}
 use Rattle.redo.specs.Store.{apply, run}
 use Rattle.redo.specs.Image.{letters, mark, count, home, inRange, headOk, headPage, emptyImage}
@@ -12,11 +12,11 @@ use Rattle.redo.specs.Entry.{entry, entries, rising, changes, logged, replay}
 use Rattle.redo.specs.Stores.{formatStores, clearMark, recoverStores, logStores, commitStores}
 use Rattle.log.specs.declared.Outcome.{Outcome}
 use Rattle.log.specs.declared.Outcome.the-variants.{Done, Cut, Refused}
-use Rattle.log.specs.Calls.{answer, after, formatRules, formatPlan, logOk, recoverRules, recoverPlan, commitRules, commitPlan, anyBytes}
+use Rattle.log.specs.Calls.{answer, after, formattable, formatRules, formatPlan, logOk, recoverRules, recoverPlan, commitRules, commitPlan, anyBytes}
 
 -- the image that format leaves; its home with a byte of page 0 changed, and with one of page 26 too
 image : List ℕ
-image = emptyImage 1 1
+image = emptyImage 1 1 0 0
 
 one : List ℕ
 one = set (replicate (64 * 27) 0) 5 7
@@ -80,9 +80,9 @@ examples :
     × (answer (recoverPlan (set (left 69) 9 2)) 9 ≡ Refused 4)
     × (answer (recoverPlan (set (left 69) 65 27)) 9 ≡ Refused 4)
     -- format: 14, or as many stores as bytes and one
-    × (answer (formatPlan [] 1 1) 9 ≡ Refused 14)
-    × (answer (formatPlan image 28 1) 9 ≡ Refused 14)
-    × (answer (formatPlan soiled 1 1) 1858 ≡ Cut 1858)
-    × (answer (formatPlan soiled 1 1) 1859 ≡ Done 1859)
-unfolding committing left mended soiled image one two first answer after apply run letters home inRange headOk entry entries rising changes logged replay headPage emptyImage formatStores formatRules formatPlan clearMark recoverStores logOk recoverRules recoverPlan logStores commitStores commitRules commitPlan over equal part get16 bytes16 blank
+    × (answer (formatPlan [] 1 1 0 0) 9 ≡ Refused 14)
+    × (answer (formatPlan image 28 1 0 0) 9 ≡ Refused 14)
+    × (answer (formatPlan soiled 1 1 0 0) 1858 ≡ Cut 1858)
+    × (answer (formatPlan soiled 1 1 0 0) 1859 ≡ Done 1859)
+unfolding committing left mended soiled image one two first answer after apply run letters home inRange headOk entry entries rising changes logged replay headPage emptyImage zerosBut formatStores formattable formatRules formatPlan clearMark recoverStores logOk recoverRules recoverPlan logStores commitStores commitRules commitPlan over equal part get16 bytes16 blank
 examples = (refl, refl, refl, refl, refl, refl, refl, refl, refl, refl, refl, refl, refl, refl, refl, refl, refl, refl, refl, refl, refl, refl, refl, refl, refl, refl, refl, refl, refl, refl, refl, refl, refl, refl, refl)

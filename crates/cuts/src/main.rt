@@ -163,7 +163,7 @@ fn recoveries(image: &mut [u8], old: &[u8], new: &[u8], mut ends: Ends) -> Ends 
 
 // An image whose home is the old one, after a commit of the new one cut at n stores.
 fn commit_cut(image: &mut [u8], old: &[u8], new: &[u8], n: usize) {
-    log::format(image, 28, 2, 10000);
+    log::format(image, 28, 2, 0, 0, 10000);
     log::commit(image, old, 10000);
     log::commit(image, new, n);
 }

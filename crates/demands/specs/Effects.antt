@@ -15,16 +15,17 @@ use Rattle.home.specs.declared.Answer.{Answer}
 use Rattle.home.specs.declared.Answer.the-variants.{Count, Refused}
 use Rattle.layout.specs.Capacities.{cells, classOf}
 use Rattle.layout.specs.Zones.{Zone}
-use Rattle.layout.specs.Layout.{change}
+use Rattle.home.specs.Layout.{change, put}
 use Rattle.layout.specs.Cases.{Holds}
 use Rattle.wire.specs.Bytes.{isSome}
 use Rattle.layout.specs.ChangeLaws.{Changed}
-use Rattle.layout.specs.Edits.{Edit, put, delete, setMinutes, dropTag}
+use Rattle.layout.specs.Edits.{Edit, put as putBy, delete, setMinutes, dropTag}
+use Rattle.layout.specs.CapacitiesLaws.{rising as rises}
 use Rattle.layout.specs.EditsLaws.{Fine, changed, put-fine, delete-fine, set-fine, drop-fine}
-use Rattle.home.specs.Bytes.{decode}
+use Rattle.home.specs.Bytes.{stepOf, decode}
 use Rattle.home.specs.Sound.{sound, pagesOf, listOf}
-use Rattle.home.specs.SoundLaws.{sound-encode, listOf-encode, sound-some, sound-small, sound-long, sound-valid}
-use Rattle.home.specs.EncodeLaws.{length-loose, valid-loose}
+use Rattle.home.specs.SoundLaws.{sound-code, sound-encode, listOf-encode, sound-some, sound-small, sound-long, sound-valid}
+use Rattle.home.specs.EncodeLaws.{step-loose, length-loose, valid-loose}
 use Rattle.moves.specs.Stored.{settled}
 use Rattle.edits.specs.Edits.{edited}
 use Rattle.gates.specs.declared.Of.the-variants.{Space}
@@ -32,13 +33,14 @@ use Rattle.gates.specs.Gates.{gateRules}
 use Rattle.gates.specs.GatesLaws.{space-open}
 use Rattle.index.specs.Calls.{putCall, deleteCall, setCall, dropCall}
 
--- an edit that is not refused: tag t's list is rs, and the answer its record count; every other tag reads as before
+-- an edit that is not refused: tag t's list is rs, and the answer its record count; every other tag reads as before, and the step code stays
 pub record Done (w w' : List ℕ) (t : ℕ) (rs : List Record) (n : ℕ) : Type 0 where
   pub fine : sound w' ≡ true
   pub long : length w' ≡ length w
   pub list : listOf w' t ≡ rs
   pub counts : n ≡ length rs
   pub others : (u : ℕ) → u ≢ t → listOf w' u ≡ listOf w u
+  pub step : stepOf w' ≡ stepOf w
 
 -- a refused one changes no lent byte
 abbrev pub Effect : List ℕ → List ℕ → ℕ → List Record → Answer → Type 0
@@ -47,20 +49,21 @@ Effect w w' t rs (Refused n) = w' ≡ w
 
 module _ (w : List ℕ) (t : ℕ) (small : t < 4294967296) where
   abbrev Makes : sound w ≡ true → List Record → Type 0
-  Makes s rs = Fine (8 * pagesOf w) t (decode w) (sound-valid w s) small rs
+  Makes s rs = Fine (cells (stepOf w)) (classOf (stepOf w)) (rises (stepOf w)) (8 * pagesOf w) t (decode w) (sound-valid w s) small rs
 
-  makes-done : (s : sound w ≡ true) (rs : List Record) → Makes s rs → Done w (settled (pagesOf w) w (change (8 * pagesOf w) t rs (decode w))) t rs (length rs)
+  makes-done : (s : sound w ≡ true) (rs : List Record) → Makes s rs → Done w (settled (stepOf w) (pagesOf w) w (change (stepOf w) (8 * pagesOf w) t rs (decode w))) t rs (length rs)
   unfolding settled listOf
-  makes-done s rs f = go (change (8 * pagesOf w) t rs (decode w)) (f .room) (changed (8 * pagesOf w) t (decode w) (sound-valid w s) small rs (f .listed) (f .free))
+  makes-done s rs f = go (change (stepOf w) (8 * pagesOf w) t rs (decode w)) (f .room) (changed (cells (stepOf w)) (classOf (stepOf w)) (rises (stepOf w)) (8 * pagesOf w) t (decode w) (sound-valid w s) small rs (f .listed) (f .free))
     where
-      go : (o : Option (List Zone)) → isSome o ≡ true → Holds (Changed cells classOf t (8 * pagesOf w) rs (decode w)) o → Done w (settled (pagesOf w) w o) t rs (length rs)
+      go : (o : Option (List Zone)) → isSome o ≡ true → Holds (Changed (cells (stepOf w)) (classOf (stepOf w)) t (8 * pagesOf w) rs (decode w)) o → Done w (settled (stepOf w) (pagesOf w) w o) t rs (length rs)
       go none i h = never i
       go (some zs) i h = record {
-        fine = sound-encode (pagesOf w) zs (sound-some w s) (sound-small w s) (h .valid);
-        long = length-loose (pagesOf w) zs (valid-loose (pagesOf w) zs (h .valid)) ∙ sym (sound-long w s);
-        list = listOf-encode (pagesOf w) zs t (sound-small w s) (h .valid) ∙ h .found;
+        fine = sound-encode (stepOf w) (pagesOf w) zs (sound-code w s) (sound-some w s) (sound-small w s) (h .valid);
+        long = length-loose (stepOf w) (pagesOf w) zs (valid-loose (stepOf w) (pagesOf w) zs (h .valid)) ∙ sym (sound-long w s);
+        list = listOf-encode (stepOf w) (pagesOf w) zs t (sound-small w s) (h .valid) ∙ h .found;
         counts = refl;
-        others = λ u d. listOf-encode (pagesOf w) zs u (sound-small w s) (h .valid) ∙ h .others u d;
+        step = step-loose (stepOf w) (pagesOf w) zs (valid-loose (stepOf w) (pagesOf w) zs (h .valid));
+        others = λ u d. listOf-encode (stepOf w) (pagesOf w) zs u (sound-small w s) (h .valid) ∙ h .others u d;
       }
 
   -- behind the rules of a workspace
@@ -78,17 +81,17 @@ module _ (w : List ℕ) (t : ℕ) (small : t < 4294967296) where
       rs = gateRules Space w ++ e .rules
 
   pub put-effect : (r : Record) → Fits r → Effect w (left (putCall w t r) w) t (insert r (listOf w t)) (answered Refused (putCall w t r))
-  unfolding putCall put listOf
-  put-effect r f = effect (put (8 * pagesOf w) t r (decode w)) (λ s q. put-fine (8 * pagesOf w) t (decode w) (sound-valid w s) small r f q)
+  unfolding putCall putBy listOf
+  put-effect r f = effect (put (stepOf w) (8 * pagesOf w) t r (decode w)) (λ s q. put-fine (cells (stepOf w)) (classOf (stepOf w)) (rises (stepOf w)) (8 * pagesOf w) t (decode w) (sound-valid w s) small r f q)
 
   pub delete-effect : (k : ℕ) → Effect w (left (deleteCall w t k) w) t (remove k (listOf w t)) (answered Refused (deleteCall w t k))
   unfolding deleteCall delete listOf
-  delete-effect k = effect (delete t k (decode w)) (λ s q. delete-fine (8 * pagesOf w) t (decode w) (sound-valid w s) small k q)
+  delete-effect k = effect (delete t k (decode w)) (λ s q. delete-fine (cells (stepOf w)) (classOf (stepOf w)) (rises (stepOf w)) (8 * pagesOf w) t (decode w) (sound-valid w s) small k q)
 
   pub set-effect : (k m : ℕ) → m < 256 → Effect w (left (setCall w t k m) w) t (amend k m (listOf w t)) (answered Refused (setCall w t k m))
   unfolding setCall setMinutes listOf
-  set-effect k m g = effect (setMinutes t k m (decode w)) (λ s q. set-fine (8 * pagesOf w) t (decode w) (sound-valid w s) small k m g q)
+  set-effect k m g = effect (setMinutes t k m (decode w)) (λ s q. set-fine (cells (stepOf w)) (classOf (stepOf w)) (rises (stepOf w)) (8 * pagesOf w) t (decode w) (sound-valid w s) small k m g q)
 
   pub drop-effect : Effect w (left (dropCall w t) w) t [] (answered Refused (dropCall w t))
   unfolding dropCall dropTag
-  drop-effect = effect (dropTag t (decode w)) (λ s q. drop-fine (8 * pagesOf w) t (decode w) (sound-valid w s) small q)
+  drop-effect = effect (dropTag t (decode w)) (λ s q. drop-fine (cells (stepOf w)) (classOf (stepOf w)) (rises (stepOf w)) (8 * pagesOf w) t (decode w) (sound-valid w s) small q)

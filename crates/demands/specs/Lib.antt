@@ -2,5 +2,6 @@ pub mod Refusals
 pub mod RefusalsLaws
 pub mod Effects
 pub mod Lists
+pub mod Step
 pub mod Claim
 pub mod Afresh

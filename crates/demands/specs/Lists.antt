@@ -17,15 +17,16 @@ use Rattle.records.specs.Order.{before-key, rising-parts, rising-at}
 use Rattle.redo.specs.Image.{mark, home, headOk, inRange, imageLength, emptyImage}
 use Rattle.redo.specs.ImageLaws.{in-range, head-same}
 use Rattle.log.specs.declared.Outcome.the-variants.{Done as Committed}
-use Rattle.log.specs.Calls.{answer, after, commitPlan, formatPlan}
+use Rattle.log.specs.Calls.{Plan, answer, after, commitPlan}
 use Rattle.log.specs.FormatLaws.{format-done, empty-head, empty-mark, empty-home}
 use Rattle.log.specs.Book.{commit, seen, planOf, allowance, value, final}
 use Rattle.log.specs.Claim.{Starts, holds, done-uncaught}
 use Rattle.log.specs.Kept.{completed}
 use Rattle.home.specs.declared.Answer.the-variants.{Count}
 use Rattle.layout.specs.Zones.{blocks, find}
-use Rattle.home.specs.Bytes.{encode}
+use Rattle.home.specs.Bytes.{stepOf, encode}
 use Rattle.home.specs.Sound.{sized, sound, listOf}
+use Rattle.home.specs.EncodeLaws.{valid-loose, step-loose}
 use Rattle.home.specs.SoundLaws.{sound-encode, listOf-encode}
 use Rattle.home.specs.EmptyLaws.{no-zones, no-zones-bytes, no-zones-valid}
 use Rattle.gates.specs.declared.Of.{Of}
@@ -35,6 +36,8 @@ use Rattle.gates.specs.GatesLaws.{image-open}
 use Rattle.reads.specs.Reads.{listIn, countIn, showIn}
 use Rattle.reads.specs.ReadsLaws.{count-open, show-open}
 use Rattle.reads.specs.MergesLaws.{sound-listed}
+use Rattle.index.specs.Calls.{formatPlan}
+use Rattle.index.specs.FormatLaws.{format-coded}
 use Rattle.index.specs.CommitLaws.{commit-refused}
 
 -- lists are sorted by level, second, phone, those three never twice
@@ -106,23 +109,44 @@ module _ (l w : List ℕ) (n m : ℕ) (done : answer (commitPlan sound l w) n �
       let e : listOf (home l') t ≡ listOf w t = ap (λ (x : List ℕ). listOf x t) (c .bytes) in
       (i .0 ∙ ap (λ (x : List Record). Count (length x)) e ∙ sym (s .0), i .1 ∙ ap recordBytes e ∙ sym (s .1))
 
+  -- the step code is the workspace's then, also where the image had the other one
+  pub committed-step : stepOf (home l') ≡ stepOf w
+  committed-step = ap stepOf (committed .bytes)
+
 -- ---- an index that format left
 
--- it reads empty for every tag
-pub formatted-reads : (l : List ℕ) (L R n : ℕ) → inRange L R ≡ true → length l ≡ imageLength L R → imageLength L R + 1 ≤ n → (t : ℕ)
-    → (countIn Image (after (formatPlan l L R) n l) t ≡ Count 0) × (showIn Image (after (formatPlan l L R) n l) t ≡ [])
-unfolding no-zones blocks find recordBytes homeIn
-formatted-reads l L R n fits long g t =
-    let x : List ℕ = emptyImage L R in
-    let size = in-range L R fits in
-    let h : home x ≡ encode R no-zones = empty-home L R fits ∙ sym (no-zones-bytes R) in
-    let s : sound (home x) ≡ true = ap sound h ∙ sound-encode R no-zones (size .some-pages) (size .few-pages) (no-zones-valid R) in
-    let e : listOf (home x) t ≡ [] = ap (λ (y : List ℕ). listOf y t) h ∙ listOf-encode R no-zones t (size .few-pages) (no-zones-valid R) ∙ none-found t in
-    let r = reads-list Image x t (image-opens x (empty-head L R fits) (empty-mark L R fits) s) in
-    rw (format-done l L R fits long n g) (r .0 ∙ ap (λ (y : List Record). Count (length y)) e, r .1 ∙ ap recordBytes e ∙ none-bytes)
-  where
-    none-found : (t : ℕ) → find t (blocks no-zones) ≡ []
-    none-found t = refl
+-- its home is that of no blocks, with the code that was asked for, and sound
+module _ (l : List ℕ) (L R step n : ℕ) (code : step ≤ 1) (fits : inRange L R ≡ true) (long : length l ≡ imageLength L R) (all : imageLength L R + 1 ≤ n) where
+  abbrev made : List ℕ
+  made = after (formatPlan l L R step) n l
 
-    none-bytes : recordBytes [] ≡ []
-    none-bytes = refl
+  formatted-is : made ≡ emptyImage L R 122 step
+  formatted-is = ap (λ (p : Plan). after p n l) (format-coded l L R step code) ∙ format-done l L R 122 step (omega arith) fits long n all
+
+  formatted-home : home made ≡ encode step R no-zones
+  formatted-home = ap home formatted-is ∙ empty-home L R 122 step (omega arith) fits ∙ sym (no-zones-bytes step R)
+
+  -- "Format takes the code"
+  pub formatted-step : stepOf (home made) ≡ step
+  formatted-step = ap stepOf formatted-home ∙ step-loose step R no-zones (valid-loose step R no-zones (no-zones-valid step R))
+
+  pub formatted-sound : sound (home made) ≡ true
+  formatted-sound =
+      let size = in-range L R fits in
+      ap sound formatted-home ∙ sound-encode step R no-zones code (size .some-pages) (size .few-pages) (no-zones-valid step R)
+
+  formatted-empty : (t : ℕ) → listOf (home made) t ≡ []
+  unfolding no-zones blocks find
+  formatted-empty t =
+      let size = in-range L R fits in
+      ap (λ (y : List ℕ). listOf y t) formatted-home ∙ listOf-encode step R no-zones t (size .few-pages) (no-zones-valid step R)
+
+  -- it reads empty for every tag
+  pub formatted-reads : (t : ℕ) → (countIn Image made t ≡ Count 0) × (showIn Image made t ≡ [])
+  unfolding homeIn recordBytes
+  formatted-reads t =
+      let head : headOk made ≡ true = ap headOk formatted-is ∙ empty-head L R 122 step (omega arith) fits in
+      let clear : mark made ≡ 0 = ap mark formatted-is ∙ empty-mark L R 122 step (omega arith) fits in
+      let r = reads-list Image made t (image-opens made head clear formatted-sound) in
+      let e : listOf (home made) t ≡ [] = formatted-empty t in
+      (r .0 ∙ ap (λ (y : List Record). Count (length y)) e, r .1 ∙ ap recordBytes e)

@@ -9,7 +9,7 @@ use Rattle.records.specs.declared.Record.{Record}
 use Rattle.merges.specs.declared.Merge.{Merge}
 use Rattle.log.specs.declared.Outcome.{Outcome}
 use Rattle.log.specs.declared.Outcome.the-variants.{Done, Cut, Refused as NotStored}
-use Rattle.log.specs.Calls.{answer, after, commitRules, commitPlan, recoverRules, recoverPlan, formatRules, formatPlan}
+use Rattle.log.specs.Calls.{answer, after, commitRules, commitPlan, recoverRules, recoverPlan}
 use Rattle.home.specs.declared.Answer.{Answer}
 use Rattle.home.specs.declared.Answer.the-variants.{Count, Refused}
 use Rattle.gates.specs.declared.Of.{Of}
@@ -18,7 +18,7 @@ use Rattle.reads.specs.Reads.{countIn}
 use Rattle.reads.specs.Merges.{mergeIn}
 use Rattle.index.specs.declared.Begun.{Begun}
 use Rattle.index.specs.declared.Begun.the-variants.{Done as Copied, Refused as NotBegun}
-use Rattle.index.specs.Calls.{beginCall, putCall, deleteCall, setCall, dropCall}
+use Rattle.index.specs.Calls.{beginCall, putCall, deleteCall, setCall, dropCall, formatRules, formatPlan}
 
 -- (a commit by the test of home and workspace that it makes: the index's, or the log's own, which accepts all)
 pub data Call : Type 0 where
@@ -31,7 +31,7 @@ pub data Call : Type 0 where
   merge : Merge → Of → List ℕ → ℕ → ℕ → List ℕ → Call
   commit : (List ℕ → Bool) → List ℕ → List ℕ → ℕ → Call
   recover : List ℕ → ℕ → Call
-  format : List ℕ → ℕ → ℕ → ℕ → Call
+  format : List ℕ → ℕ → ℕ → ℕ → ℕ → Call
 
 -- its refusals, in order
 unfoldable pub rulesOf : Call → List Rule
@@ -45,7 +45,7 @@ rulesOf (count of bs t) = gateRules of bs
 rulesOf (merge m of bs t u out) = mergeIn m of bs t u out .rules
 rulesOf (commit accept l w n) = commitRules accept l w
 rulesOf (recover l n) = recoverRules l
-rulesOf (format l L R n) = formatRules l L R
+rulesOf (format l L R step n) = formatRules l L R step
 
 -- the refusal that an answer tells
 unfoldable pub ofAnswer : Answer → Option ℕ
@@ -71,7 +71,7 @@ refusedWith (count of bs t) = ofAnswer (countIn of bs t)
 refusedWith (merge m of bs t u out) = ofAnswer (answered Refused (mergeIn m of bs t u out))
 refusedWith (commit accept l w n) = ofOutcome (answer (commitPlan accept l w) n)
 refusedWith (recover l n) = ofOutcome (answer (recoverPlan l) n)
-refusedWith (format l L R n) = ofOutcome (answer (formatPlan l L R) n)
+refusedWith (format l L R step n) = ofOutcome (answer (formatPlan l L R step) n)
 
 -- the bytes lent to write
 unfoldable pub lent : Call → List ℕ
@@ -84,7 +84,7 @@ lent (count of bs t) = []
 lent (merge m of bs t u out) = out
 lent (commit accept l w n) = l
 lent (recover l n) = l
-lent (format l L R n) = l
+lent (format l L R step n) = l
 
 unfoldable pub givenBack : Call → List ℕ
 givenBack (begin l w) = left (beginCall l w) w
@@ -96,4 +96,4 @@ givenBack (count of bs t) = []
 givenBack (merge m of bs t u out) = left (mergeIn m of bs t u out) out
 givenBack (commit accept l w n) = after (commitPlan accept l w) n l
 givenBack (recover l n) = after (recoverPlan l) n l
-givenBack (format l L R n) = after (formatPlan l L R) n l
+givenBack (format l L R step n) = after (formatPlan l L R step) n l

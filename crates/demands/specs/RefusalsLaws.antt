@@ -11,7 +11,7 @@ use Rattle.wire.specs.RulesLaws.{by-refusal, first-refused, first-passed}
 use Rattle.records.specs.declared.Record.{Record}
 use Rattle.merges.specs.declared.Merge.{Merge}
 use Rattle.redo.specs.Store.{Store}
-use Rattle.log.specs.Calls.{Plan, refuse, store, answer, after, commitPlan, recoverPlan, formatPlan}
+use Rattle.log.specs.Calls.{Plan, refuse, store, answer, after, commitPlan, recoverPlan}
 use Rattle.home.specs.declared.Answer.the-variants.{Refused}
 use Rattle.layout.specs.Edits.{put as putEdit, delete as deleteEdit, setMinutes as setEdit, dropTag as dropEdit}
 use Rattle.gates.specs.declared.Of.the-variants.{Image, Space}
@@ -19,7 +19,7 @@ use Rattle.gates.specs.Gates.{gateRules}
 use Rattle.reads.specs.Reads.{countIn}
 use Rattle.reads.specs.Merges.{mergeIn}
 use Rattle.index.specs.declared.Begun.the-variants.{Refused as NotBegun}
-use Rattle.index.specs.Calls.{beginCall, putCall, deleteCall, setCall, dropCall}
+use Rattle.index.specs.Calls.{beginCall, putCall, deleteCall, setCall, dropCall, formatRules, formatPlan}
 use Rattle.demands.specs.Refusals.{Call, begin, put, delete, setMinutes, dropTag, count, merge, commit, recover, format, rulesOf, ofAnswer, ofBegun, ofOutcome, refusedWith, lent, givenBack}
 
 -- ---- which numbers each call can be refused with, in which order
@@ -45,6 +45,10 @@ module _ (l w : List ℕ) (t u n : ℕ) (m : Merge) (out : List ℕ) where
   begin-numbers : numbers (rulesOf (begin l w)) ≡ 1 ∷ 3 ∷ 5 ∷ 6 ∷ []
   unfolding rulesOf beginCall gateRules numbers
   begin-numbers = refl
+
+  format-numbers : (L R step : ℕ) → numbers (rulesOf (format l L R step n)) ≡ 14 ∷ []
+  unfolding rulesOf formatRules numbers
+  format-numbers L R step = refl
 
   count-image-numbers : numbers (rulesOf (count Image l t)) ≡ 1 ∷ 3 ∷ 5 ∷ []
   unfolding rulesOf gateRules numbers
@@ -86,7 +90,7 @@ refused-exactly (count of bs t) = exactly ofAnswer Refused _ _ (λ n. refl) refl
 refused-exactly (merge m of bs t u out) = exactly ofAnswer Refused _ _ (λ n. refl) refl
 refused-exactly (commit accept l w n) = planned _ _ n
 refused-exactly (recover l n) = planned _ _ n
-refused-exactly (format l L R n) = planned _ _ n
+refused-exactly (format l L R step n) = planned _ _ n
 
 -- ---- and then nothing is changed
 
@@ -108,7 +112,7 @@ unchanged (count of bs t) n e = refl
 unchanged (merge m of bs t u out) n e = stays (mergeIn m of bs t u out) out n e
 unchanged (commit accept l w n) r e = unstored _ _ n r l e
 unchanged (recover l n) r e = unstored _ _ n r l e
-unchanged (format l L R n) r e = unstored _ _ n r l e
+unchanged (format l L R step n) r e = unstored _ _ n r l e
 
 -- "Every refusal leaves all lent bytes unchanged."
 pub refused-unchanged : (c : Call) (n : ℕ) → refusedWith c ≡ some n → givenBack c ≡ lent c

@@ -10,8 +10,9 @@ use Rattle.home.specs.declared.Answer.{Answer}
 use Rattle.home.specs.declared.Answer.the-variants.{Count}
 use Rattle.layout.specs.Capacities.{cells}
 use Rattle.layout.specs.Zones.{total}
-use Rattle.layout.specs.Edits.{Edit, put, delete, setMinutes, dropTag}
-use Rattle.home.specs.Bytes.{decode}
+use Rattle.layout.specs.Edits.{Edit, delete, setMinutes, dropTag}
+use Rattle.home.specs.Layout.{put}
+use Rattle.home.specs.Bytes.{stepOf, decode}
 use Rattle.home.specs.Sound.{pagesOf}
 use Rattle.lists.specs.Listed.{changed}
 
@@ -21,7 +22,7 @@ edited h t e = record { rules = e .rules; answer = Count (length (e .list)); byt
 
 -- each on the layout in home's bytes
 abbrev pub putIn : List ℕ → ℕ → Record → Ruled Answer
-putIn h t r = edited h t (put (8 * pagesOf h) t r (decode h))
+putIn h t r = edited h t (put (stepOf h) (8 * pagesOf h) t r (decode h))
 
 abbrev pub deleteIn : List ℕ → ℕ → ℕ → Ruled Answer
 deleteIn h t k = edited h t (delete t k (decode h))
@@ -33,5 +34,5 @@ abbrev pub dropIn : List ℕ → ℕ → Ruled Answer
 dropIn h t = edited h t (dropTag t (decode h))
 
 -- do all blocks fit in the area once one of class d stands for one of class c
-abbrev pub fitsAfter : List ℕ → ℕ → ℕ → Bool
-fitsAfter h c d = leb (total cells 0 (decode h) + cells d) (8 * pagesOf h + cells c)
+abbrev pub fitsAfter : ℕ → List ℕ → ℕ → ℕ → Bool
+fitsAfter step h c d = leb (total (cells step) 0 (decode h) + cells step d) (8 * pagesOf h + cells step c)

@@ -24,13 +24,14 @@ use Rattle.records.specs.Edits.{length-encode, decode-encode}
 use Rattle.home.specs.declared.lookup.TagBlock.the-variants.{Unknown}
 use Rattle.layout.specs.Capacities.{cells, classOf}
 use Rattle.layout.specs.Zones.{Zone, blocks, hasTag, find, total, change as changeBy}
-use Rattle.layout.specs.Layout.{change, totalAfter}
+use Rattle.home.specs.Layout.{change, totalAfter, put}
 use Rattle.layout.specs.Sizes.{blockSize, totalAfter as totalAfterBy}
 use Rattle.layout.specs.AfreshLaws.{size-some}
-use Rattle.layout.specs.Edits.{Edit, recordRules, put, delete, setMinutes, dropTag}
+use Rattle.layout.specs.Edits.{Edit, recordRules, put as putBy, delete, setMinutes, dropTag}
+use Rattle.layout.specs.CapacitiesLaws.{rising as rises}
 use Rattle.layout.specs.EditsLaws.{length-amend, exactly, had-size, total-low, empty-unknown}
 use Rattle.home.specs.HomeLaws.{all-mem}
-use Rattle.home.specs.Bytes.{decode}
+use Rattle.home.specs.Bytes.{stepOf, decode}
 use Rattle.home.specs.Sound.{sound, pagesOf, listOf}
 use Rattle.home.specs.Lookup.{blockOf}
 use Rattle.home.specs.TagBlockLaws.{list-none}
@@ -103,8 +104,8 @@ module _ (h : List ℕ) (t k : ℕ) (none-listed : held (look k (listOf h t)) �
 
 module _ (h : List ℕ) (t p n : ℕ) (l : Listed h t p n) where
   pub put-held : (r : Record) → held (look (key r) (listOf h t)) ≡ true → Ends h (putIn h t r) (Refused 8) h
-  unfolding put listOf first
-  put-held r e = refuses h t (put (8 * pagesOf h) t r (decode h)) 8 (rw e)
+  unfolding putBy listOf first
+  put-held r e = refuses h t (put (stepOf h) (8 * pagesOf h) t r (decode h)) 8 (rw e)
 
   pub drop-done : Ends h (dropIn h t) (Count 0) (changed h t [])
   unfolding dropTag first
@@ -124,83 +125,86 @@ set-done h t p n j m k g =
 -- ---- a record put to a tag with a list
 
 -- where 8, 10 and 11 do not apply, it depends on 12
-last : (area t : ℕ) (r : Record) (zs : List Zone) → held (look (key r) (find t (blocks zs))) ≡ false → length (find t (blocks zs)) < 989
-    → not (hasTag t (blocks zs)) && leb 256 (length (blocks zs)) ≡ false → (b : Bool) → leb (totalAfter t (insert r (find t (blocks zs))) zs) area ≡ b
-    → refusal (put area t r zs .rules) ≡ pick {A = Option ℕ} b none (some 12)
-unfolding put first
-last area t r zs h g f b e =
+last : (step area t : ℕ) (r : Record) (zs : List Zone) → held (look (key r) (find t (blocks zs))) ≡ false → length (find t (blocks zs)) < 989
+    → not (hasTag t (blocks zs)) && leb 256 (length (blocks zs)) ≡ false → (b : Bool) → leb (totalAfter step t (insert r (find t (blocks zs))) zs) area ≡ b
+    → refusal (put step area t r zs .rules) ≡ pick {A = Option ℕ} b none (some 12)
+unfolding putBy first
+last step area t r zs h g f b e =
     let rs : List Record = find t (blocks zs) in
-    rw (h, lt-leb 989 (length rs) g, f, sym (not-leb (totalAfter t (insert r rs) zs) area) ∙ ap not e) (flip b)
+    rw (h, lt-leb 989 (length rs) g, f, sym (not-leb (totalAfter step t (insert r rs) zs) area) ∙ ap not e) (flip b)
   where
     flip : (b : Bool) → pick {A = Option ℕ} (not b) (some 12) none ≡ pick {A = Option ℕ} b none (some 12)
     flip true = refl
     flip false = refl
 
 module _ (h : List ℕ) (t p n j : ℕ) (r : Record) (k : Missing h t p n j r) where
+  abbrev step : ℕ
+  step = stepOf h
+
   abbrev new : List Record
   new = insert r (listOf h t)
 
   pub put-full : n ≡ 989 → Ends h (putIn h t r) (Refused 10) h
-  unfolding put listOf first
+  unfolding putBy listOf first
   put-full e =
       let g : leb 989 (length (find t (blocks (decode h)))) ≡ true = le-leb 989 (length (find t (blocks (decode h)))) (omega (arith, listed-many h t p n (k .listed))) in
-      refuses h t (put (8 * pagesOf h) t r (decode h)) 10 (rw (k .held, g))
+      refuses h t (put step (8 * pagesOf h) t r (decode h)) 10 (rw (k .held, g))
 
-  old-size : blockSize cells classOf (listOf h t) ≡ cells (classOf n)
+  old-size : blockSize (cells step) (classOf step) (listOf h t) ≡ cells step (classOf step n)
   unfolding listOf
   old-size =
-      had-size (8 * pagesOf h) t (decode h) (sound-valid h (k .listed .sound)) (listed-lying h t p n (k .listed) .sits .tag) (listed-has h t p n (k .listed)) .0
-      ∙ ap (λ (m : ℕ). cells (classOf m)) (sym (listed-many h t p n (k .listed)))
+      had-size (cells step) (classOf step) (rises step) (8 * pagesOf h) t (decode h) (sound-valid h (k .listed .sound)) (listed-lying h t p n (k .listed) .sits .tag) (listed-has h t p n (k .listed)) .0
+      ∙ ap (λ (m : ℕ). cells step (classOf step m)) (sym (listed-many h t p n (k .listed)))
 
   -- its block is one of all
-  old-least : cells (classOf n) ≤ total cells 0 (decode h)
+  old-least : cells step (classOf step n) ≤ total (cells step) 0 (decode h)
   unfolding listOf
   old-least =
       omega (
         arith,
         old-size,
-        had-size (8 * pagesOf h) t (decode h) (sound-valid h (k .listed .sound)) (listed-lying h t p n (k .listed) .sits .tag) (listed-has h t p n (k .listed)) .1,
+        had-size (cells step) (classOf step) (rises step) (8 * pagesOf h) t (decode h) (sound-valid h (k .listed .sound)) (listed-lying h t p n (k .listed) .sits .tag) (listed-has h t p n (k .listed)) .1,
       )
 
   module _ (short : n < 989) where
     -- whether there is room is known by the sizes of all blocks
-    fits-total : fitsAfter h (classOf n) (classOf (n + 1)) ≡ leb (totalAfter t new (decode h)) (8 * pagesOf h)
+    fits-total : fitsAfter step h (classOf step n) (classOf step (n + 1)) ≡ leb (totalAfter step t new (decode h)) (8 * pagesOf h)
     unfolding listOf totalAfterBy
     fits-total =
         let m : length new ≡ n + 1 = new-many h t p n j r k in
-        let b : blockSize cells classOf new ≡ cells (classOf (n + 1)) = size-some cells classOf new (omega (arith, m)) ∙ ap (λ (d : ℕ). cells (classOf d)) m in
-        sym (ap₂ (λ (x y : ℕ). leb (total cells 0 (decode h) - x + y) (8 * pagesOf h)) old-size b
-        ∙ leb-iff (total cells 0 (decode h) - cells (classOf n) + cells (classOf (n + 1))) (8 * pagesOf h) (total cells 0 (decode h) + cells (classOf (n + 1))) (8 * pagesOf h + cells (classOf n))
+        let b : blockSize (cells step) (classOf step) new ≡ cells step (classOf step (n + 1)) = size-some (cells step) (classOf step) new (omega (arith, m)) ∙ ap (λ (d : ℕ). cells step (classOf step d)) m in
+        sym (ap₂ (λ (x y : ℕ). leb (total (cells step) 0 (decode h) - x + y) (8 * pagesOf h)) old-size b
+        ∙ leb-iff (total (cells step) 0 (decode h) - cells step (classOf step n) + cells step (classOf step (n + 1))) (8 * pagesOf h) (total (cells step) 0 (decode h) + cells step (classOf step (n + 1))) (8 * pagesOf h + cells step (classOf step n))
         (λ g. omega (arith, old-least)) (λ g. omega (arith, old-least)))
 
-    pub put-room : fitsAfter h (classOf n) (classOf (n + 1)) ≡ isSome (change (8 * pagesOf h) t new (decode h))
-    put-room = fits-total ∙ sym (exactly (8 * pagesOf h) t (decode h) (sound-valid h (k .listed .sound)) (listed-lying h t p n (k .listed) .sits .tag) new (new-proper h t p n j r k short))
+    pub put-room : fitsAfter step h (classOf step n) (classOf step (n + 1)) ≡ isSome (change step (8 * pagesOf h) t new (decode h))
+    put-room = fits-total ∙ sym (exactly (cells step) (classOf step) (rises step) (8 * pagesOf h) t (decode h) (sound-valid h (k .listed .sound)) (listed-lying h t p n (k .listed) .sits .tag) new (new-proper h t p n j r k short))
 
     -- and there is where the class stays
-    pub put-keeps : classOf (n + 1) ≡ classOf n → fitsAfter h (classOf n) (classOf (n + 1)) ≡ true
+    pub put-keeps : classOf step (n + 1) ≡ classOf step n → fitsAfter step h (classOf step n) (classOf step (n + 1)) ≡ true
     put-keeps e =
-        ap (fitsAfter h (classOf n)) e
-        ∙ le-leb (total cells 0 (decode h) + cells (classOf n)) (8 * pagesOf h + cells (classOf n)) (omega (arith, total-low (8 * pagesOf h) (decode h) (sound-valid h (k .listed .sound))))
+        ap (fitsAfter step h (classOf step n)) e
+        ∙ le-leb (total (cells step) 0 (decode h) + cells step (classOf step n)) (8 * pagesOf h + cells step (classOf step n)) (omega (arith, total-low (cells step) (classOf step) (rises step) (8 * pagesOf h) (decode h) (sound-valid h (k .listed .sound))))
 
-    put-last : (b : Bool) → fitsAfter h (classOf n) (classOf (n + 1)) ≡ b → refusal (put (8 * pagesOf h) t r (decode h) .rules) ≡ pick {A = Option ℕ} b none (some 12)
+    put-last : (b : Bool) → fitsAfter step h (classOf step n) (classOf step (n + 1)) ≡ b → refusal (put step (8 * pagesOf h) t r (decode h) .rules) ≡ pick {A = Option ℕ} b none (some 12)
     unfolding listOf
     put-last b q =
         let many : n ≡ length (find t (blocks (decode h))) = listed-many h t p n (k .listed) in
-        last (8 * pagesOf h) t r (decode h) (k .held) (omega arith) (rw (listed-has h t p n (k .listed)) refl) b (sym fits-total ∙ q)
+        last step (8 * pagesOf h) t r (decode h) (k .held) (omega arith) (rw (listed-has h t p n (k .listed)) refl) b (sym fits-total ∙ q)
 
-    pub put-done : fitsAfter h (classOf n) (classOf (n + 1)) ≡ true → Ends h (putIn h t r) (Count (n + 1)) (changed h t new)
-    unfolding put listOf
-    put-done i = makes h t (put (8 * pagesOf h) t r (decode h)) (n + 1) new (put-last true i) refl (sym (new-many h t p n j r k))
+    pub put-done : fitsAfter step h (classOf step n) (classOf step (n + 1)) ≡ true → Ends h (putIn h t r) (Count (n + 1)) (changed h t new)
+    unfolding putBy listOf
+    put-done i = makes h t (put step (8 * pagesOf h) t r (decode h)) (n + 1) new (put-last true i) refl (sym (new-many h t p n j r k))
 
-    pub put-no-room : fitsAfter h (classOf n) (classOf (n + 1)) ≡ false → Ends h (putIn h t r) (Refused 12) h
-    put-no-room i = refuses h t (put (8 * pagesOf h) t r (decode h)) 12 (put-last false i)
+    pub put-no-room : fitsAfter step h (classOf step n) (classOf step (n + 1)) ≡ false → Ends h (putIn h t r) (Refused 12) h
+    put-no-room i = refuses h t (put step (8 * pagesOf h) t r (decode h)) 12 (put-last false i)
 
 -- ---- of an unknown tag
 
-settled-none : (R : ℕ) (h : List ℕ) (o : Option (List Zone)) → isSome o ≡ false → settled R h o ≡ h
+settled-none : (step R : ℕ) (h : List ℕ) (o : Option (List Zone)) → isSome o ≡ false → settled step R h o ≡ h
 unfolding settled
-settled-none R h none i = refl
-settled-none R h (some zs) i = never (sym i)
+settled-none step R h none i = refl
+settled-none step R h (some zs) i = never (sym i)
 
 -- its list of one
 pub inserted-alone : (l : List ℕ) (r : Record) → length l ≡ 8 → inserted l 0 r ≡ recordBytes (r ∷ [])
@@ -209,7 +213,7 @@ inserted-alone l r e = over-whole (up l (8 * 0)) (bytesOf r) (length-bytesOf r �
 
 pub absent-new : (h : List ℕ) (t : ℕ) → sound h ≡ true → blockOf h t ≡ Unknown → hasTag t (blocks (decode h)) ≡ false
 unfolding listOf
-absent-new h t s e = empty-unknown (8 * pagesOf h) t (decode h) (sound-valid h s) (list-none h t s e)
+absent-new h t s e = empty-unknown (cells (stepOf h)) (classOf (stepOf h)) (rises (stepOf h)) (8 * pagesOf h) t (decode h) (sound-valid h s) (list-none h t s e)
 
 module _ (h : List ℕ) (t : ℕ) (s : sound h ≡ true) (no : hasTag t (blocks (decode h)) ≡ false) where
   nothing-found : find t (blocks (decode h)) ≡ []
@@ -231,10 +235,10 @@ module _ (h : List ℕ) (t : ℕ) (s : sound h ≡ true) (no : hasTag t (blocks 
   nothing-listed = rw nothing-found
 
   pub put-tags : (r : Record) → get16 h 0 ≡ 256 → Ends h (putIn h t r) (Refused 11) h
-  unfolding put first
+  unfolding putBy first
   put-tags r e =
       let g : leb 256 (length (blocks (decode h))) ≡ true = le-leb 256 (length (blocks (decode h))) (omega (arith, sound-tags h s)) in
-      refuses h t (put (8 * pagesOf h) t r (decode h)) 11 (rw (nothing-held (key r), nothing-listed, no, g))
+      refuses h t (put (stepOf h) (8 * pagesOf h) t r (decode h)) 11 (rw (nothing-held (key r), nothing-listed, no, g))
 
   module _ (small : t < 4294967296) (few : get16 h 0 ≢ 256) (r : Record) (fits : Fits r) (bs : List ℕ) (e : bs ≡ recordBytes (r ∷ [])) where
     fewer : length (blocks (decode h)) < 256
@@ -261,26 +265,26 @@ module _ (h : List ℕ) (t : ℕ) (s : sound h ≡ true) (no : hasTag t (blocks 
     unfolding insert
     list-is = rw nothing-found
 
-    settles : change (8 * pagesOf h) t (r ∷ []) (decode h) ≡ settledIn h t bs
+    settles : change (stepOf h) (8 * pagesOf h) t (r ∷ []) (decode h) ≡ settledIn h t bs
     unfolding changeBy
     settles = rw (no, read, one)
 
     one-listed : Proper (r ∷ [])
     one-listed = record { rising = rising-one r; fits = more fits nothing; short = omega arith }
 
-    new-last : (b : Bool) → isSome (settledIn h t bs) ≡ b → refusal (put (8 * pagesOf h) t r (decode h) .rules) ≡ pick {A = Option ℕ} b none (some 12)
+    new-last : (b : Bool) → isSome (settledIn h t bs) ≡ b → refusal (put (stepOf h) (8 * pagesOf h) t r (decode h) .rules) ≡ pick {A = Option ℕ} b none (some 12)
     new-last b q =
-        let x : isSome (change (8 * pagesOf h) t (r ∷ []) (decode h)) ≡ leb (totalAfter t (r ∷ []) (decode h)) (8 * pagesOf h) = exactly (8 * pagesOf h) t (decode h) (sound-valid h s) small (r ∷ []) one-listed in
-        last (8 * pagesOf h) t r (decode h) (nothing-held (key r)) (omega (arith, nothing-listed)) (rw (no, lt-leb 256 (length (blocks (decode h))) fewer) refl) b
-        (ap (λ (l : List Record). leb (totalAfter t l (decode h)) (8 * pagesOf h)) list-is ∙ sym x ∙ ap isSome settles ∙ q)
+        let x : isSome (change (stepOf h) (8 * pagesOf h) t (r ∷ []) (decode h)) ≡ leb (totalAfter (stepOf h) t (r ∷ []) (decode h)) (8 * pagesOf h) = exactly (cells (stepOf h)) (classOf (stepOf h)) (rises (stepOf h)) (8 * pagesOf h) t (decode h) (sound-valid h s) small (r ∷ []) one-listed in
+        last (stepOf h) (8 * pagesOf h) t r (decode h) (nothing-held (key r)) (omega (arith, nothing-listed)) (rw (no, lt-leb 256 (length (blocks (decode h))) fewer) refl) b
+        (ap (λ (l : List Record). leb (totalAfter (stepOf h) t l (decode h)) (8 * pagesOf h)) list-is ∙ sym x ∙ ap isSome settles ∙ q)
 
-    pub new-done : (x : List ℕ) → isSome (settledIn h t bs) ≡ true → x ≡ settled (pagesOf h) h (settledIn h t bs) → Ends h (putIn h t r) (Count 1) x
-    unfolding put
+    pub new-done : (x : List ℕ) → isSome (settledIn h t bs) ≡ true → x ≡ settled (stepOf h) (pagesOf h) h (settledIn h t bs) → Ends h (putIn h t r) (Count 1) x
+    unfolding putBy
     new-done x i y =
-        let d = makes h t (put (8 * pagesOf h) t r (decode h)) 1 (r ∷ []) (new-last true i) list-is refl in
-        (d .0, y ∙ ap (settled (pagesOf h) h) (sym settles) ∙ d .1)
+        let d = makes h t (put (stepOf h) (8 * pagesOf h) t r (decode h)) 1 (r ∷ []) (new-last true i) list-is refl in
+        (d .0, y ∙ ap (settled (stepOf h) (pagesOf h) h) (sym settles) ∙ d .1)
 
-    pub new-no-room : (x : List ℕ) → isSome (settledIn h t bs) ≡ false → x ≡ settled (pagesOf h) h (settledIn h t bs) → Ends h (putIn h t r) (Refused 12) x
+    pub new-no-room : (x : List ℕ) → isSome (settledIn h t bs) ≡ false → x ≡ settled (stepOf h) (pagesOf h) h (settledIn h t bs) → Ends h (putIn h t r) (Refused 12) x
     new-no-room x i y =
-        let d = refuses h t (put (8 * pagesOf h) t r (decode h)) 12 (new-last false i) in
-        (d .0, y ∙ settled-none (pagesOf h) h (settledIn h t bs) i ∙ d .1)
+        let d = refuses h t (put (stepOf h) (8 * pagesOf h) t r (decode h)) 12 (new-last false i) in
+        (d .0, y ∙ settled-none (stepOf h) (pagesOf h) h (settledIn h t bs) i ∙ d .1)

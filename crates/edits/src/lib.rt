@@ -1,12 +1,13 @@
 // The edits of a sound workspace, in place: put, delete, set minutes and drop.
 use home::AREA;
 use home::Answer;
+use home::lookup::TagBlock;
+use home::lookup::block_of;
+use home::lookup::step_of;
 use layout::classes::LONGEST_LIST;
 use layout::classes::capacity;
 use layout::classes::cells;
 use layout::classes::class_of;
-use home::lookup::TagBlock;
-use home::lookup::block_of;
 use lists::change::insert_moving;
 use lists::change::remove_record;
 use lists::here::insert_here;
@@ -29,12 +30,12 @@ ghost use Rattle.wire.specs.Rules.{answered, left};
 ghost use Rattle.edits.specs.Edits.{putIn, deleteIn, setIn, dropIn, fitsAfter};
 
 // Whether all blocks fit in the area once one of class d stands for one of class c.
-fn room_after(home: &[u8], c: usize, d: usize) -> bool
-    requires { ⌜ Stored (now home) × (c < 30) × (d < 30) ⌝ }
-    ensures { λ r. ⌜ r ≡ fitsAfter (now (home .entry)) c d ⌝ }
+fn room_after(home: &[u8], step: usize, c: usize, d: usize) -> bool
+    requires { ⌜ Stored step (now home) × (c < 30) × (d < 30) ⌝ }
+    ensures { λ r. ⌜ r ≡ fitsAfter step (now (home .entry)) c d ⌝ }
 {
     let area = (home.len() - AREA) / 8;
-    total(home) + cells(d) <= area + cells(c)
+    total(home, step) + cells(step, d) <= area + cells(step, c)
 }
 
 // Puts a record in at its rank among the n records of the tag's block at cell p.
@@ -46,12 +47,13 @@ fn insert_record(home: &mut [u8], tag: u32, p: usize, n: usize, j: usize, r: Rec
     if n == 989 {
         return Answer::Refused(10);
     }
-    let c = class_of(n);
-    if n < capacity(c) {
+    let step = step_of(home);
+    let c = class_of(step, n);
+    if n < capacity(step, c) {
         insert_here(home, p, n, j, r);
         return Answer::Count(n + 1);
     }
-    if !room_after(home, c, class_of(n + 1)) {
+    if !room_after(home, step, c, class_of(step, n + 1)) {
         return Answer::Refused(12);
     }
     let mut aside = [0; LONGEST_LIST];
@@ -164,6 +166,7 @@ pub fn drop_tag(home: &mut [u8], tag: u32) -> Answer
     let TagBlock::Known(p, n) = block_of(home, tag) else {
         return Answer::Refused(9);
     };
-    take_out(home, tag, class_of(n), p);
+    let step = step_of(home);
+    take_out(home, step, tag, class_of(step, n), p);
     Answer::Count(0)
 }

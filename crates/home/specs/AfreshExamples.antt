@@ -9,7 +9,7 @@ use Rattle.wire.specs.Bytes.{equal}
 use Rattle.records.specs.declared.Record.{Record}
 use Rattle.layout.specs.Capacities.{cells, classOf}
 use Rattle.layout.specs.Zones.{Zone, empty, blocks, hasTag, find, rewritten, place, takeOut, settle, change as changeBy}
-use Rattle.layout.specs.Layout.{change}
+use Rattle.home.specs.Layout.{change}
 use Rattle.home.specs.Bytes.{Entry, dictionary}
 
 -- so many records, of seconds s, s + 1, ..
@@ -27,22 +27,22 @@ seen : List Entry → List ℕ
 seen [] = []
 seen (x ∷ xs) = x .tag ∷ x .cell ∷ seen xs
 
-shown : Option (List Zone) → List ℕ
+shown : (step : ℕ) → Option (List Zone) → List ℕ
 unfolding seen dictionary
-shown none = []
-shown (some zs) = seen (dictionary zs)
+shown step none = []
+shown step (some zs) = seen (dictionary step zs)
 
 left : List Zone → Option (List Zone) → List Zone
 left zs none = zs
 left zs (some zs') = zs'
 
 -- do the lists, given one after another in an area of so many cells, lie as the rows say
-follow : ℕ → List Zone → List Row → Bool
+follow : (step : ℕ) → ℕ → List Zone → List Row → Bool
 unfolding many shown left equal
-follow n zs [] = true
-follow n zs (r ∷ rs) =
-    let o : Option (List Zone) = change n (r .tag) (many 1 (r .records)) zs in
-    equal (shown o) (r .after) && follow n (left zs o) rs
+follow step n zs [] = true
+follow step n zs (r ∷ rs) =
+    let o : Option (List Zone) = change step n (r .tag) (many 1 (r .records)) zs in
+    equal (shown step o) (r .after) && follow step n (left zs o) rs
 
 -- R = 2: behind 9, which lies at 6, there is no room for 7 cells, so that 9 is laid at 0 and 11 behind it. Then 2 cells are left.
 gaps : List Row
@@ -56,7 +56,7 @@ gaps =
     record { tag = 13; records = 1; after = [] } ∷
     []
 
-gaps-hold : follow 16 (replicate 30 empty) gaps ≡ true
+gaps-hold : follow 0 16 (replicate 30 empty) gaps ≡ true
 unfolding follow changeBy settle place takeOut rewritten hasTag find blocks cells classOf gaps
 gaps-hold = refl
 
@@ -70,7 +70,7 @@ order =
     record { tag = 1; records = 5; after = 1 ∷ 16 ∷ 2 ∷ 5 ∷ 3 ∷ 0 ∷ 4 ∷ 10 ∷ [] } ∷
     []
 
-order-holds : follow 24 (replicate 30 empty) order ≡ true
+order-holds : follow 0 24 (replicate 30 empty) order ≡ true
 unfolding follow changeBy settle place takeOut rewritten hasTag find blocks cells classOf order
 order-holds = refl
 
@@ -83,6 +83,6 @@ lifted =
     record { tag = 3; records = 1; after = 1 ∷ 5 ∷ 2 ∷ 14 ∷ 3 ∷ 0 ∷ [] } ∷
     []
 
-lifted-holds : follow 24 (replicate 30 empty) lifted ≡ true
+lifted-holds : follow 0 24 (replicate 30 empty) lifted ≡ true
 unfolding follow changeBy settle place takeOut rewritten hasTag find blocks cells classOf lifted
 lifted-holds = refl

@@ -2,7 +2,7 @@
 use mathlib.Core.List.{List, [], _∷_, _++_, map}
 use Prim.Native.Nat.{ℕ, zero, suc, _+_, _*_, _-_}
 use lib.Dec.{ltb, eqb}
-use lib.ListN.{length, replicate}
+use lib.ListN.{length, getD, replicate}
 use Rattle.wire.specs.Bytes.{pick, over, get16, get32, bytes16, bytes32}
 use Rattle.records.specs.Records.{records, encode as recordBytes}
 use Rattle.layout.specs.Capacities.{capacity, cells}
@@ -11,10 +11,10 @@ use Rattle.layout.specs.Zones.{Block, Zone, empty, from, zone, blocks}
 -- ---- a layout's bytes
 
 -- "A block is one cell of header, tag (4), record count (2), two zero bytes, then its records, then zero cells": a block of class c
-unfoldable pub blockBytes : ℕ → Block → List ℕ
+unfoldable pub blockBytes : ℕ → ℕ → Block → List ℕ
 unfolding bytes16 bytes32 recordBytes
-blockBytes c b =
-    bytes32 (b .tag) ++ (bytes16 (length (b .list)) ++ (0 ∷ 0 ∷ (recordBytes (b .list) ++ replicate (8 * (capacity c - length (b .list))) 0)))
+blockBytes step c b =
+    bytes32 (b .tag) ++ (bytes16 (length (b .list)) ++ (0 ∷ 0 ∷ (recordBytes (b .list) ++ replicate (8 * (capacity step c - length (b .list))) 0)))
 
 -- a block with its first cell and its class
 pub record Spot : Type 0 where
@@ -23,27 +23,27 @@ pub record Spot : Type 0 where
   pub block : Block
 
 -- blocks of class c from cell p on, one directly after the other
-unfoldable pub row : ℕ → ℕ → List Block → List Spot
-row c p [] = []
-row c p (x ∷ xs) = record { cell = p; class = c; block = x } ∷ row c (p + cells c) xs
+unfoldable pub row : ℕ → ℕ → ℕ → List Block → List Spot
+row step c p [] = []
+row step c p (x ∷ xs) = record { cell = p; class = c; block = x } ∷ row step c (p + cells step c) xs
 
 -- the blocks of zones c and up
-unfoldable pub spots : ℕ → List Zone → List Spot
+unfoldable pub spots : ℕ → ℕ → List Zone → List Spot
 unfolding row
-spots c [] = []
-spots c (empty ∷ zs) = spots (suc c) zs
-spots c (from f x xs ∷ zs) = row c f (x ∷ xs) ++ spots (suc c) zs
+spots step c [] = []
+spots step c (empty ∷ zs) = spots step (suc c) zs
+spots step c (from f x xs ∷ zs) = row step c f (x ∷ xs) ++ spots step (suc c) zs
 
 -- each block's bytes written from its first cell on
-unfoldable pub paint : List Spot → List ℕ → List ℕ
+unfoldable pub paint : ℕ → List Spot → List ℕ → List ℕ
 unfolding over blockBytes
-paint [] a = a
-paint (s ∷ ss) a = over (paint ss a) (8 * s .cell) (blockBytes (s .class) (s .block))
+paint step [] a = a
+paint step (s ∷ ss) a = over (paint step ss a) (8 * s .cell) (blockBytes step (s .class) (s .block))
 
 -- "the record area", here of n "cells of 8 bytes"; "every cell in no zone is zero"
-unfoldable pub area : ℕ → List Zone → List ℕ
+unfoldable pub area : ℕ → ℕ → List Zone → List ℕ
 unfolding paint spots
-area n zs = paint (spots 0 zs) (replicate (8 * n) 0)
+area step n zs = paint step (spots step 0 zs) (replicate (8 * n) 0)
 
 -- "For each class c .. the zone's first cell (2) and its block count (2); an empty zone has first cell 0"
 unfoldable pub zoneEntries : List Zone → List ℕ
@@ -71,9 +71,9 @@ sorted [] = []
 sorted (x ∷ xs) = enter x (sorted xs)
 
 -- "the dictionary": every block's tag and first cell
-unfoldable pub dictionary : List Zone → List Entry
+unfoldable pub dictionary : ℕ → List Zone → List Entry
 unfolding sorted spots
-dictionary zs = sorted (map entryOf (spots 0 zs))
+dictionary step zs = sorted (map entryOf (spots step 0 zs))
 
 -- its bytes
 unfoldable pub entriesBytes : List Entry → List ℕ
@@ -86,10 +86,17 @@ unfoldable pub padded : List Entry → List ℕ
 unfolding entriesBytes
 padded ds = entriesBytes ds ++ replicate (1536 - 6 * length ds) 0
 
--- home's bytes with R record pages: "bytes 0–1 hold the tag count", zone entries, "Bytes 122–127 are zero", dictionary, "From byte 1,664 lies the record area of 8R cells"
-unfoldable pub encode : ℕ → List Zone → List ℕ
+-- "Home byte 122 now carries a step code"; bytes 123 to 127 are zero
+abbrev pub stepBytes : ℕ → List ℕ
+stepBytes k = k ∷ 0 ∷ 0 ∷ 0 ∷ 0 ∷ 0 ∷ []
+
+abbrev pub stepOf : List ℕ → ℕ
+stepOf h = getD h 122 0
+
+-- home's bytes with R record pages: "bytes 0–1 hold the tag count", zone entries, the step code, dictionary, "From byte 1,664 lies the record area of 8R cells"
+unfoldable pub encode : ℕ → ℕ → List Zone → List ℕ
 unfolding bytes16 zoneEntries dictionary padded area blocks
-encode R zs = bytes16 (length (blocks zs)) ++ (zoneEntries zs ++ (replicate 6 0 ++ (padded (dictionary zs) ++ area (8 * R) zs)))
+encode step R zs = bytes16 (length (blocks zs)) ++ (zoneEntries zs ++ (stepBytes step ++ (padded (dictionary step zs) ++ area step (8 * R) zs)))
 
 -- ---- back, of any bytes h
 
@@ -113,10 +120,10 @@ unfolding get16 get32 records
 blockAt h p = record { tag = get32 h (cellAt p); list = records h (listAt p) (countAt h p) }
 
 -- n blocks of class c from cell p on
-unfoldable pub blocksAt : List ℕ → ℕ → ℕ → ℕ → List Block
+unfoldable pub blocksAt : ℕ → List ℕ → ℕ → ℕ → ℕ → List Block
 unfolding blockAt
-blocksAt h c p zero = []
-blocksAt h c p (suc n) = blockAt h p ∷ blocksAt h c (p + cells c) n
+blocksAt step h c p zero = []
+blocksAt step h c p (suc n) = blockAt h p ∷ blocksAt step h c (p + cells step c) n
 
 -- zone c's first cell, its block count, and the zone
 abbrev pub firstAt : List ℕ → ℕ → ℕ
@@ -125,24 +132,24 @@ firstAt h c = get16 h (zoneEntryAt c)
 abbrev pub manyAt : List ℕ → ℕ → ℕ
 manyAt h c = get16 h (zoneEntryAt c + 2)
 
-unfoldable pub zoneAt : List ℕ → ℕ → Zone
+unfoldable pub zoneAt : ℕ → List ℕ → ℕ → Zone
 unfolding get16 blocksAt zone
-zoneAt h c = zone (firstAt h c) (blocksAt h c (firstAt h c) (manyAt h c))
+zoneAt step h c = zone (firstAt h c) (blocksAt step h c (firstAt h c) (manyAt h c))
 
 -- where it ends, if the lower zones end at e: an empty one changes nothing
-unfoldable pub endAt : List ℕ → ℕ → ℕ → ℕ
+unfoldable pub endAt : ℕ → List ℕ → ℕ → ℕ → ℕ
 unfolding get16 cells
-endAt h c e = pick (eqb (manyAt h c) 0) e (firstAt h c + manyAt h c * cells c)
+endAt step h c e = pick (eqb (manyAt h c) 0) e (firstAt h c + manyAt h c * cells step c)
 
 -- n zones from class c on
-unfoldable pub zonesFrom : List ℕ → ℕ → ℕ → List Zone
+unfoldable pub zonesFrom : ℕ → List ℕ → ℕ → ℕ → List Zone
 unfolding zoneAt
-zonesFrom h c zero = []
-zonesFrom h c (suc n) = zoneAt h c ∷ zonesFrom h (suc c) n
+zonesFrom step h c zero = []
+zonesFrom step h c (suc n) = zoneAt step h c ∷ zonesFrom step h (suc c) n
 
--- the layout that home's bytes tell
+-- the layout that home's bytes tell, by their step code
 unfoldable pub decode : List ℕ → List Zone
-decode h = zonesFrom h 0 30
+decode h = zonesFrom (stepOf h) h 0 30
 
 -- the dictionary's i-th entry
 abbrev pub tagAt : List ℕ → ℕ → ℕ

@@ -61,7 +61,7 @@ records-fit h at zero b = rw records-none none
 records-fit h at (suc n) b = rw (records-more h at n) (more (record-fits h at b) (records-fit h (at + 8) n b))
 
 -- read, then written
-cons-at : (l : List ℕ) (at k : ℕ) → at < length l → suc at ≡ k → drop at l ≡ getD l at 0 ∷ drop k l
+pub cons-at : (l : List ℕ) (at k : ℕ) → at < length l → suc at ≡ k → drop at l ≡ getD l at 0 ∷ drop k l
 cons-at l at k h e = rw (← e) (drop-cons l at 0 h)
 
 pub bytes16-read : (l : List ℕ) (at : ℕ) → Bytes l → at + 2 ≤ length l → bytes16 (get16 l at) ≡ part l at 2

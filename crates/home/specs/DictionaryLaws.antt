@@ -116,32 +116,32 @@ pigeon (d ∷ ds) es (after a o) (more i h) l =
     (omega (arith, plength p))))
     (psym p)
 
-pub dictionary-of : (ds : List Entry) (zs : List Zone) → Pairs Below ds → All (λ (d : Entry). In d (map entryOf (spots 0 zs))) ds → length ds ≡ length (spots 0 zs)
-    → (dictionary zs ≡ ds) × Pairs Else (map entryOf (spots 0 zs))
+pub dictionary-of : (step : ℕ) (ds : List Entry) (zs : List Zone) → Pairs Below ds → All (λ (d : Entry). In d (map entryOf (spots step 0 zs))) ds → length ds ≡ length (spots step 0 zs)
+    → (dictionary step zs ≡ ds) × Pairs Else (map entryOf (spots step 0 zs))
 unfolding dictionary
-dictionary-of ds zs b h l =
-    let es : List Entry = map entryOf (spots 0 zs) in
+dictionary-of step ds zs b h l =
+    let es : List Entry = map entryOf (spots step 0 zs) in
     let o : Pairs Else ds = rising-else ds b in
-    let p : Perm ds es = pigeon ds es o h (l ∙ sym (length-map (spots 0 zs) entryOf)) in
+    let p : Perm ds es = pigeon ds es o h (l ∙ sym (length-map (spots step 0 zs) entryOf)) in
     (sym (sorted-perm p o) ∙ sorted-of-rising ds b, ppairs Else else-sym p o)
 
 -- ---- blocks and spots
 
-pub zone-spots : (c f : ℕ) (bs : List Block) (zs : List Zone) → spots c (zone f bs ∷ zs) ≡ row c f bs ++ spots (suc c) zs
+pub zone-spots : (step c f : ℕ) (bs : List Block) (zs : List Zone) → spots step c (zone f bs ∷ zs) ≡ row step c f bs ++ spots step (suc c) zs
 unfolding spots zone row
-zone-spots c f [] zs = refl
-zone-spots c f (x ∷ xs) zs = refl
+zone-spots step c f [] zs = refl
+zone-spots step c f (x ∷ xs) zs = refl
 
-pub row-blocks : (c p : ℕ) (xs : List Block) → map (λ (s : Spot). s .block) (row c p xs) ≡ xs
+pub row-blocks : (step c p : ℕ) (xs : List Block) → map (λ (s : Spot). s .block) (row step c p xs) ≡ xs
 unfolding row
-row-blocks c p [] = refl
-row-blocks c p (x ∷ xs) = ap (λ (l : List Block). x ∷ l) (row-blocks c (p + cells c) xs)
+row-blocks step c p [] = refl
+row-blocks step c p (x ∷ xs) = ap (λ (l : List Block). x ∷ l) (row-blocks step c (p + cells step c) xs)
 
-pub spots-blocks : (c : ℕ) (zs : List Zone) → map (λ (s : Spot). s .block) (spots c zs) ≡ blocks zs
+pub spots-blocks : (step c : ℕ) (zs : List Zone) → map (λ (s : Spot). s .block) (spots step c zs) ≡ blocks zs
 unfolding spots blocks
-spots-blocks c [] = refl
-spots-blocks c (empty ∷ zs) = spots-blocks (suc c) zs
-spots-blocks c (from f x xs ∷ zs) = map-append (λ (s : Spot). s .block) (row c f (x ∷ xs)) (spots (suc c) zs) ∙ ap₂ (λ (l r : List Block). l ++ r) (row-blocks c f (x ∷ xs)) (spots-blocks (suc c) zs)
+spots-blocks step c [] = refl
+spots-blocks step c (empty ∷ zs) = spots-blocks step (suc c) zs
+spots-blocks step c (from f x xs ∷ zs) = map-append (λ (s : Spot). s .block) (row step c f (x ∷ xs)) (spots step (suc c) zs) ∙ ap₂ (λ (l r : List Block). l ++ r) (row-blocks step c f (x ∷ xs)) (spots-blocks step (suc c) zs)
 
 else-of : (s : Spot) (ss : List Spot) → All (Other (s .block)) (map (λ (r : Spot). r .block) ss) → All (Else (entryOf s)) (map entryOf ss)
 else-of s [] h = none
@@ -159,13 +159,13 @@ distinct-of : (ss : List Spot) → Pairs Else (map entryOf ss) → Pairs Other (
 distinct-of [] h = single
 distinct-of (s ∷ ss) (after a h) = after (other-of s ss a) (distinct-of ss h)
 
-pub distinct-tags : (zs : List Zone) → Pairs Else (map entryOf (spots 0 zs)) → Pairs Other (blocks zs)
-distinct-tags zs h = subst (Pairs Other) (spots-blocks 0 zs) (distinct-of (spots 0 zs) h)
+pub distinct-tags : (step : ℕ) (zs : List Zone) → Pairs Else (map entryOf (spots step 0 zs)) → Pairs Other (blocks zs)
+distinct-tags step zs h = subst (Pairs Other) (spots-blocks step 0 zs) (distinct-of (spots step 0 zs) h)
 
-pub dictionary-rising : (zs : List Zone) → Pairs Other (blocks zs) → Pairs Below (dictionary zs)
+pub dictionary-rising : (step : ℕ) (zs : List Zone) → Pairs Other (blocks zs) → Pairs Below (dictionary step zs)
 unfolding dictionary
-dictionary-rising zs d = sorted-rising (map entryOf (spots 0 zs)) (pairs-of (spots 0 zs) (subst (Pairs Other) (sym (spots-blocks 0 zs)) d))
+dictionary-rising step zs d = sorted-rising (map entryOf (spots step 0 zs)) (pairs-of (spots step 0 zs) (subst (Pairs Other) (sym (spots-blocks step 0 zs)) d))
 
-pub dictionary-perm : (zs : List Zone) → Perm (dictionary zs) (map entryOf (spots 0 zs))
+pub dictionary-perm : (step : ℕ) (zs : List Zone) → Perm (dictionary step zs) (map entryOf (spots step 0 zs))
 unfolding dictionary
-dictionary-perm zs = perm-sorted (map entryOf (spots 0 zs))
+dictionary-perm step zs = perm-sorted (map entryOf (spots step 0 zs))

@@ -9,20 +9,20 @@ use borrow.Author.Tests.{eq-eqb, ne-eqb}
 use Rattle.layout.specs.Capacities.{cells}
 use Rattle.home.specs.Bytes.{firstAt, manyAt, endAt}
 
-pub end-none : (h : List ℕ) (c e : ℕ) → manyAt h c ≡ 0 → endAt h c e ≡ e
+pub end-none : (step : ℕ) (h : List ℕ) (c e : ℕ) → manyAt h c ≡ 0 → endAt step h c e ≡ e
 unfolding endAt
-end-none h c e z = rw (eq-eqb (manyAt h c) 0 z)
+end-none step h c e z = rw (eq-eqb (manyAt h c) 0 z)
 
-pub end-some : (h : List ℕ) (c e : ℕ) → manyAt h c ≢ 0 → endAt h c e ≡ firstAt h c + manyAt h c * cells c
+pub end-some : (step : ℕ) (h : List ℕ) (c e : ℕ) → manyAt h c ≢ 0 → endAt step h c e ≡ firstAt h c + manyAt h c * cells step c
 unfolding endAt
-end-some h c e z = rw (ne-eqb (manyAt h c) 0 z)
+end-some step h c e z = rw (ne-eqb (manyAt h c) 0 z)
 
 -- as the code finds it
-pub end-empty : (h : List ℕ) (c e n : ℕ) → n ≡ manyAt h c → n ≡ 0 → e ≡ endAt h c e
-end-empty h c e n m z = sym (end-none h c e (sym m ∙ z))
+pub end-empty : (step : ℕ) (h : List ℕ) (c e n : ℕ) → n ≡ manyAt h c → n ≡ 0 → e ≡ endAt step h c e
+end-empty step h c e n m z = sym (end-none step h c e (sym m ∙ z))
 
-pub end-full : (h : List ℕ) (c e f n k : ℕ) → f ≡ firstAt h c → n ≡ manyAt h c → k ≡ cells c → n ≢ 0 → f + n * k ≡ endAt h c e
-end-full h c e f n k a b d z = rw (a, b, d) (sym (end-some h c e (λ q. z (b ∙ q))))
+pub end-full : (step : ℕ) (h : List ℕ) (c e f n k : ℕ) → f ≡ firstAt h c → n ≡ manyAt h c → k ≡ cells step c → n ≢ 0 → f + n * k ≡ endAt step h c e
+end-full step h c e f n k a b d z = rw (a, b, d) (sym (end-some step h c e (λ q. z (b ∙ q))))
 
 -- a number of 2 bytes times a block's size
 pub zone-fits : (m s : ℕ) → m < 65536 → s ≤ 990 → m * s ≤ 64880640

@@ -8,7 +8,7 @@ use lib.Seq.{drop-drop}
 use Rattle.wire.specs.Bytes.{get16, get32, bytes16, bytes32}
 use Rattle.wire.specs.All.{All, none, more}
 use Rattle.layout.specs.Zones.{Zone}
-use Rattle.layout.specs.Layout.{Sits, Fit}
+use Rattle.home.specs.Layout.{Sits, Fit}
 use Rattle.home.specs.Bytes.{Spot, spots, Entry, entryOf, dictionary, entriesBytes, tagAt, entryCell, entriesAt}
 use Rattle.layout.specs.PermLaws.{psym, pall}
 use Rattle.home.specs.BytesLaws.{get16-front, get32-front}
@@ -22,12 +22,12 @@ pub record Small (d : Entry) : Type 0 where
   pub tag : d .tag < 4294967296
   pub cell : d .cell < 65536
 
-pub small-entries : (R : ℕ) (ss : List Spot) → R ≤ 1024 → All (λ (s : Spot). Sits (s .class) (s .block)) ss → All (Good (8 * R)) ss → All Small (map entryOf ss)
-small-entries R [] g h k = none
-small-entries R (s ∷ ss) g (more a h) (more b k) = more {x = entryOf s} (record { tag = a .tag; cell = omega (arith, b .inside, cells-pos (s .class)) }) (small-entries R ss g h k)
+pub small-entries : (step R : ℕ) (ss : List Spot) → R ≤ 1024 → All (λ (s : Spot). Sits step (s .class) (s .block)) ss → All (Good step (8 * R)) ss → All Small (map entryOf ss)
+small-entries step R [] g h k = none
+small-entries step R (s ∷ ss) g (more a h) (more b k) = more {x = entryOf s} (record { tag = a .tag; cell = omega (arith, b .inside, cells-pos step (s .class)) }) (small-entries step R ss g h k)
 
-pub dictionary-small : (R : ℕ) (zs : List Zone) → R ≤ 1024 → Fit (8 * R) 0 0 zs → All Small (dictionary zs)
-dictionary-small R zs g f = pall Small (psym (dictionary-perm zs)) (small-entries R (spots 0 zs) g (spots-sit (8 * R) 0 0 zs f) (spots-good (8 * R) 0 0 zs f))
+pub dictionary-small : (step R : ℕ) (zs : List Zone) → R ≤ 1024 → Fit step (8 * R) 0 0 zs → All Small (dictionary step zs)
+dictionary-small step R zs g f = pall Small (psym (dictionary-perm step zs)) (small-entries step R (spots step 0 zs) g (spots-sit step (8 * R) 0 0 zs f) (spots-good step (8 * R) 0 0 zs f))
 
 -- ---- one entry, and the next
 

@@ -17,7 +17,8 @@ use Rattle.layout.specs.Valid.{valid}
 use Rattle.home.specs.Sound.{sound}
 use Rattle.home.specs.declared.Answer.{Answer}
 use Rattle.home.specs.declared.Answer.the-variants.{Count, Refused}
-use Rattle.layout.specs.Edits.{Edit, put, delete, setMinutes, dropTag}
+use Rattle.home.specs.Layout.{put}
+use Rattle.layout.specs.Edits.{Edit, put as putBy, delete, setMinutes, dropTag}
 
 -- an edit: its tag, and the record with minutes or the key's three numbers
 data Asked : Type 0 where
@@ -44,21 +45,21 @@ tagOf (deleting t l s p) = t
 tagOf (setting t l s p m) = t
 tagOf (dropping t) = t
 
-made : ℕ → Asked → List Zone → Edit
-unfolding of put delete setMinutes dropTag key
-made n (putting t l s p m) zs = put n t (of l s p m) zs
-made n (deleting t l s p) zs = delete t (key (of l s p 0)) zs
-made n (setting t l s p m) zs = setMinutes t (key (of l s p 0)) m zs
-made n (dropping t) zs = dropTag t zs
+made : (step : ℕ) → ℕ → Asked → List Zone → Edit
+unfolding of putBy delete setMinutes dropTag key
+made step n (putting t l s p m) zs = put step n t (of l s p m) zs
+made step n (deleting t l s p) zs = delete t (key (of l s p 0)) zs
+made step n (setting t l s p m) zs = setMinutes t (key (of l s p 0)) m zs
+made step n (dropping t) zs = dropTag t zs
 
 -- what an edit answers, and the layout after it
 answer : Edit → Answer
 unfolding first
 answer e = first Refused (e .rules) (Count (length (e .list)))
 
-layout : ℕ → Asked → List Zone → List Zone
+layout : (step : ℕ) → ℕ → Asked → List Zone → List Zone
 unfolding made tagOf first
-layout n a zs = first (λ r. zs) (made n a zs .rules) (Option·getD (change cells classOf n (tagOf a) (made n a zs .list) zs) zs)
+layout step n a zs = first (λ r. zs) (made step n a zs .rules) (Option·getD (change (cells step) (classOf step) n (tagOf a) (made step n a zs .list) zs) zs)
 
 -- answers and what is shown, as numbers
 answered : Answer → List ℕ
@@ -69,20 +70,20 @@ shown : List Shown → List ℕ
 shown [] = []
 shown (at t p c n ∷ xs) = t ∷ p ∷ c ∷ n ∷ shown xs
 
-seen : List Zone → List Entry → List ℕ
+seen : (step : ℕ) → List Zone → List Entry → List ℕ
 unfolding find blocks classOf
-seen zs [] = []
-seen zs (x ∷ xs) =
+seen step zs [] = []
+seen step zs (x ∷ xs) =
     let n : ℕ = length (find (x .tag) (blocks zs)) in
-    x .tag ∷ x .cell ∷ classOf n ∷ n ∷ seen zs xs
+    x .tag ∷ x .cell ∷ classOf step n ∷ n ∷ seen step zs xs
 
 -- do the edits, one after another in an area of so many cells, answer and leave what the rows say
-follow : ℕ → List Zone → List Row → Bool
+follow : (step : ℕ) → ℕ → List Zone → List Row → Bool
 unfolding answer layout answered shown seen dictionary equal
-follow n zs [] = true
-follow n zs (r ∷ rs) =
-    let zs' : List Zone = layout n (r .edit) zs in
-    equal (answered (answer (made n (r .edit) zs)) ++ seen zs' (dictionary zs')) (answered (r .answer) ++ shown (r .after)) && follow n zs' rs
+follow step n zs [] = true
+follow step n zs (r ∷ rs) =
+    let zs' : List Zone = layout step n (r .edit) zs in
+    equal (answered (answer (made step n (r .edit) zs)) ++ seen step zs' (dictionary step zs')) (answered (r .answer) ++ shown (r .after)) && follow step n zs' rs
 
 -- "Bench cases", R = 2
 bench : List Row
@@ -114,15 +115,68 @@ bench =
     record { edit = dropping 11; answer = Count 0; after = at 13 4 1 5 ∷ [] } ∷
     []
 
-bench-holds : follow 16 (replicate 30 empty) bench ≡ true
+bench-holds : follow 0 16 (replicate 30 empty) bench ≡ true
 unfolding follow change settle place takeOut rewritten hasTag look insert remove amend cells totalAfter bench
 bench-holds = refl
 
+-- the same calls with step code 1: classes 0 and 1 have 5 and 8 cells, so that there is room for other blocks
+bench-coarse : List Row
+bench-coarse =
+    -- case 1
+    record { edit = putting 7 0 1 0 0; answer = Count 1; after = at 7 0 0 1 ∷ [] } ∷
+    record { edit = putting 9 0 1 0 0; answer = Count 1; after = at 7 0 0 1 ∷ at 9 5 0 1 ∷ [] } ∷
+    -- case 2
+    record { edit = putting 7 0 2 0 0; answer = Count 2; after = at 7 0 0 2 ∷ at 9 5 0 1 ∷ [] } ∷
+    record { edit = putting 7 0 3 0 0; answer = Count 3; after = at 7 0 0 3 ∷ at 9 5 0 1 ∷ [] } ∷
+    record { edit = putting 7 0 4 0 0; answer = Count 4; after = at 7 0 0 4 ∷ at 9 5 0 1 ∷ [] } ∷
+    record { edit = putting 7 0 5 0 0; answer = Count 5; after = at 7 5 1 5 ∷ at 9 0 0 1 ∷ [] } ∷
+    -- case 3
+    record { edit = putting 11 0 1 0 0; answer = Refused 12; after = at 7 5 1 5 ∷ at 9 0 0 1 ∷ [] } ∷
+    -- case 4
+    record { edit = putting 13 0 1 0 0; answer = Refused 12; after = at 7 5 1 5 ∷ at 9 0 0 1 ∷ [] } ∷
+    -- case 5
+    record { edit = deleting 7 0 3 0; answer = Count 4; after = at 7 5 0 4 ∷ at 9 0 0 1 ∷ [] } ∷
+    record { edit = putting 13 0 1 0 0; answer = Count 1; after = at 7 5 0 4 ∷ at 9 0 0 1 ∷ at 13 10 0 1 ∷ [] } ∷
+    -- case 6
+    record { edit = dropping 9; answer = Count 0; after = at 7 5 0 4 ∷ at 13 0 0 1 ∷ [] } ∷
+    record { edit = putting 13 0 1 0 0; answer = Refused 8; after = at 7 5 0 4 ∷ at 13 0 0 1 ∷ [] } ∷
+    -- case 7
+    record { edit = putting 13 0 2 0 0; answer = Count 2; after = at 7 5 0 4 ∷ at 13 0 0 2 ∷ [] } ∷
+    record { edit = putting 13 0 3 0 0; answer = Count 3; after = at 7 5 0 4 ∷ at 13 0 0 3 ∷ [] } ∷
+    record { edit = putting 13 0 4 0 0; answer = Count 4; after = at 7 5 0 4 ∷ at 13 0 0 4 ∷ [] } ∷
+    record { edit = putting 13 0 5 0 0; answer = Count 5; after = at 7 0 0 4 ∷ at 13 5 1 5 ∷ [] } ∷
+    record { edit = dropping 7; answer = Count 0; after = at 13 5 1 5 ∷ [] } ∷
+    record { edit = dropping 11; answer = Refused 9; after = at 13 5 1 5 ∷ [] } ∷
+    []
+
+bench-coarse-holds : follow 1 16 (replicate 30 empty) bench-coarse ≡ true
+unfolding follow change settle place takeOut rewritten hasTag look insert remove amend cells totalAfter bench-coarse
+bench-coarse-holds = refl
+
+-- and a list that grows: its fifth record moves it to class 1, its eighth finds no room there
+grown : List Row
+grown =
+    record { edit = putting 7 0 1 0 0; answer = Count 1; after = at 7 0 0 1 ∷ [] } ∷
+    record { edit = putting 9 0 1 0 0; answer = Count 1; after = at 7 0 0 1 ∷ at 9 5 0 1 ∷ [] } ∷
+    record { edit = putting 7 0 2 0 0; answer = Count 2; after = at 7 0 0 2 ∷ at 9 5 0 1 ∷ [] } ∷
+    record { edit = putting 7 0 3 0 0; answer = Count 3; after = at 7 0 0 3 ∷ at 9 5 0 1 ∷ [] } ∷
+    record { edit = putting 7 0 4 0 0; answer = Count 4; after = at 7 0 0 4 ∷ at 9 5 0 1 ∷ [] } ∷
+    record { edit = putting 7 0 5 0 0; answer = Count 5; after = at 7 5 1 5 ∷ at 9 0 0 1 ∷ [] } ∷
+    record { edit = putting 11 0 1 0 0; answer = Refused 12; after = at 7 5 1 5 ∷ at 9 0 0 1 ∷ [] } ∷
+    record { edit = putting 7 0 6 0 0; answer = Count 6; after = at 7 5 1 6 ∷ at 9 0 0 1 ∷ [] } ∷
+    record { edit = putting 7 0 7 0 0; answer = Count 7; after = at 7 5 1 7 ∷ at 9 0 0 1 ∷ [] } ∷
+    record { edit = putting 7 0 8 0 0; answer = Refused 12; after = at 7 5 1 7 ∷ at 9 0 0 1 ∷ [] } ∷
+    []
+
+grown-holds : follow 1 16 (replicate 30 empty) grown ≡ true
+unfolding follow change settle place takeOut rewritten hasTag look insert remove amend cells totalAfter grown
+grown-holds = refl
+
 -- the layout after them
-left : ℕ → List Zone → List Row → List Zone
+left : (step : ℕ) → ℕ → List Zone → List Row → List Zone
 unfolding layout
-left n zs [] = zs
-left n zs (r ∷ rs) = left n (layout n (r .edit) zs) rs
+left step n zs [] = zs
+left step n zs (r ∷ rs) = left step n (layout step n (r .edit) zs) rs
 
 -- a home with single bytes changed, and whether it is sound
 record Poked : Type 0 where
@@ -198,7 +252,7 @@ model =
     record { edit = putting 11 1 0 1 147; answer = Refused 12; after = at 9 5 2 6 ∷ at 4294967295 0 0 2 ∷ [] } ∷
     []
 
-model-holds : follow 16 (replicate 30 empty) model ≡ true
+model-holds : follow 0 16 (replicate 30 empty) model ≡ true
 unfolding follow change settle place takeOut rewritten hasTag look insert remove amend cells totalAfter model
 model-holds = refl
 
@@ -213,7 +267,7 @@ spoiled =
 
 whole : List ℕ
 unfolding encode left spoiled
-whole = encode 2 (left 16 (replicate 30 empty) spoiled)
+whole = encode 0 2 (left 0 16 (replicate 30 empty) spoiled)
 
 -- offsets and values from its home on
 pokings : List Poked
@@ -224,8 +278,25 @@ pokings =
     record { pokes = (1670, 2) ∷ []; fine = false } ∷
     record { pokes = (1691, 165) ∷ []; fine = false } ∷
     record { pokes = (1757, 5) ∷ []; fine = true } ∷
+    -- "With class 0 blocks only, home is sound with both codes"; no other code is
+    record { pokes = (122, 1) ∷ []; fine = true } ∷
+    record { pokes = (122, 2) ∷ []; fine = false } ∷
+    record { pokes = (123, 1) ∷ []; fine = false } ∷
+    record { pokes = (127, 1) ∷ []; fine = false } ∷
     []
 
 model-judges : judged whole (record { pokes = []; fine = true } ∷ pokings) ≡ true
 unfolding judged whole pokings change settle place takeOut rewritten hasTag look insert remove amend cells totalAfter sound valid equal decode zonesFrom encode bytesOf risingFrom recordAt classOf find blocks capacity part blank
 model-judges = refl
+
+-- a home with a block of class 1 is sound with its own code alone
+other : List ℕ
+unfolding encode left grown
+other = encode 1 2 (left 1 16 (replicate 30 empty) grown)
+
+codes : List Poked
+codes = record { pokes = []; fine = true } ∷ record { pokes = (122, 0) ∷ []; fine = false } ∷ []
+
+codes-judged : judged other codes ≡ true
+unfolding judged other codes change settle place takeOut rewritten hasTag look insert remove amend cells totalAfter sound valid equal decode zonesFrom encode bytesOf risingFrom recordAt classOf find blocks capacity part blank
+codes-judged = refl

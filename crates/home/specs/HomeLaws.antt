@@ -16,7 +16,7 @@ use Rattle.records.specs.Edits.{length-encode, decode-encode as records-back}
 use Rattle.layout.specs.Capacities.{cells, capacity}
 use Rattle.layout.specs.CapacitiesLaws.{cells-pos, cells-most}
 use Rattle.layout.specs.Zones.{Block, Zone, empty, from, zone, blocks}
-use Rattle.layout.specs.Layout.{Sits, Fit}
+use Rattle.home.specs.Layout.{Sits, Fit}
 use Rattle.home.specs.Bytes.{blockBytes, Spot, row, spots, zoneEntries, Entry, entryOf, enter, sorted, dictionary, entriesBytes, padded, cellAt, zoneEntryAt, countAt, blockAt, blocksAt, firstAt, manyAt, zoneAt, zonesFrom}
 use Rattle.layout.specs.Cases.{by-pick}
 use Rattle.layout.specs.PermLaws.{all-left, all-right}
@@ -26,8 +26,8 @@ use Rattle.home.specs.AreaLaws.{fit-le, bytesOf}
 -- ---- what home's bytes hold
 
 -- a block where it lies, and cells that are zero
-abbrev pub ReadsAt : List ℕ → Spot → Type 0
-ReadsAt h s = part h (cellAt (s .cell)) (8 * cells (s .class)) ≡ bytesOf s
+abbrev pub ReadsAt : ℕ → List ℕ → Spot → Type 0
+ReadsAt step h s = part h (cellAt (s .cell)) (8 * cells step (s .class)) ≡ bytesOf step s
 
 abbrev pub ZeroAt : List ℕ → ℕ → ℕ → Type 0
 ZeroAt h i m = part h (cellAt i) (8 * m) ≡ replicate (8 * m) 0
@@ -60,19 +60,19 @@ list-back h at rs rest e f =
     (λ i g. sym (getD-drop at h i 0) ∙ ap (λ (x : List ℕ). getD x i 0) e ∙ List·getD-append l rest 0 i (omega (arith, length-encode rs)) ∙ ap (λ (k : ℕ). getD l k 0) (omega arith))
     ∙ ap (records l 0) (sym n) ∙ records-back rs (all-mem rs f)
 
-module _ (h : List ℕ) (p c : ℕ) (b : Block) (rest : List ℕ) (e : drop (cellAt p) h ≡ blockBytes c b ++ rest) (s : Sits c b) where
+module _ (step : ℕ) (h : List ℕ) (p c : ℕ) (b : Block) (rest : List ℕ) (e : drop (cellAt p) h ≡ blockBytes step c b ++ rest) (s : Sits step c b) where
   pub block-count : countAt h p ≡ length (b .list)
   unfolding blockBytes bytes32 get16
-  block-count = get16-at h (blockBytes c b ++ rest) (cellAt p) 4 e ∙ get16-front (length (b .list)) [] (omega (arith, s .room, cells-most c))
+  block-count = get16-at h (blockBytes step c b ++ rest) (cellAt p) 4 e ∙ get16-front (length (b .list)) [] (omega (arith, s .room, cells-most step c))
 
   pub block-tag : get32 h (cellAt p) ≡ b .tag
   unfolding blockBytes bytes32 get32
-  block-tag = get32-at h (blockBytes c b ++ rest) (cellAt p) e ∙ get32-front (b .tag) [] (s .tag)
+  block-tag = get32-at h (blockBytes step c b ++ rest) (cellAt p) e ∙ get32-front (b .tag) [] (s .tag)
 
   pub block-records : records h (cellAt p + 8) (length (b .list)) ≡ b .list
   unfolding blockBytes bytes32 bytes16
   block-records =
-      let pad : List ℕ = replicate (8 * (capacity c - length (b .list))) 0 in
+      let pad : List ℕ = replicate (8 * (capacity step c - length (b .list))) 0 in
       list-back h (cellAt p + 8) (b .list) (pad ++ rest)
       (sym (drop-drop 8 (cellAt p) h) ∙ ap (drop 8) e ∙ append-assoc (recordBytes (b .list)) pad rest) (s .fits)
 
@@ -82,45 +82,45 @@ module _ (h : List ℕ) (p c : ℕ) (b : Block) (rest : List ℕ) (e : drop (cel
       let l : records h (cellAt p + 8) (countAt h p) ≡ b .list = ap (records h (cellAt p + 8)) block-count ∙ block-records in
       λ i. record { tag = block-tag i; list = l i }
 
-pub block-starts : (h : List ℕ) (s : Spot) → ReadsAt h s → drop (cellAt (s .cell)) h ≡ bytesOf s ++ drop (cellAt (s .cell) + 8 * cells (s .class)) h
-block-starts h s r = chop (cellAt (s .cell)) (8 * cells (s .class)) h ∙ ap (λ (l : List ℕ). l ++ drop (cellAt (s .cell) + 8 * cells (s .class)) h) r
+pub block-starts : (step : ℕ) (h : List ℕ) (s : Spot) → ReadsAt step h s → drop (cellAt (s .cell)) h ≡ bytesOf step s ++ drop (cellAt (s .cell) + 8 * cells step (s .class)) h
+block-starts step h s r = chop (cellAt (s .cell)) (8 * cells step (s .class)) h ∙ ap (λ (l : List ℕ). l ++ drop (cellAt (s .cell) + 8 * cells step (s .class)) h) r
 
 -- ---- zones
 
-blocks-back : (h : List ℕ) (c p : ℕ) (xs : List Block) → All (Sits c) xs → All (ReadsAt h) (row c p xs) → blocksAt h c p (length xs) ≡ xs
+blocks-back : (step : ℕ) (h : List ℕ) (c p : ℕ) (xs : List Block) → All (Sits step c) xs → All (ReadsAt step h) (row step c p xs) → blocksAt step h c p (length xs) ≡ xs
 unfolding blocksAt row
-blocks-back h c p [] s r = refl
-blocks-back h c p (x ∷ xs) (more a s) (more b r) = ap₂ {A = Block} {B = List Block} _∷_
-    (block-back h p c x (drop (cellAt p + 8 * cells c) h) (block-starts h (record { cell = p; class = c; block = x }) b) a)
-    (blocks-back h c (p + cells c) xs s r)
+blocks-back step h c p [] s r = refl
+blocks-back step h c p (x ∷ xs) (more a s) (more b r) = ap₂ {A = Block} {B = List Block} _∷_
+    (block-back step h p c x (drop (cellAt p + 8 * cells step c) h) (block-starts step h (record { cell = p; class = c; block = x }) b) a)
+    (blocks-back step h c (p + cells step c) xs s r)
 
-pub zones-back : (n c e : ℕ) (zs : List Zone) (h : List ℕ) → Fit n c e zs → Entries h c zs → All (ReadsAt h) (spots c zs) → zonesFrom h c (length zs) ≡ zs
+pub zones-back : (step n c e : ℕ) (zs : List Zone) (h : List ℕ) → Fit step n c e zs → Entries h c zs → All (ReadsAt step h) (spots step c zs) → zonesFrom step h c (length zs) ≡ zs
 unfolding zonesFrom zoneAt spots zone blocksAt
-zones-back n c e [] h l d r = refl
-zones-back n c e (empty ∷ zs) h l d r = ap₂ {A = Zone} {B = List Zone} _∷_
-    (ap (λ (m : ℕ). zone (firstAt h c) (blocksAt h c (firstAt h c) m)) (d .1)) (zones-back n (suc c) e zs h l (d .2) r)
-zones-back n c e (from f x xs ∷ zs) h l d r = ap₂ {A = Zone} {B = List Zone} _∷_
-    (ap₂ (λ (g m : ℕ). zone g (blocksAt h c g m)) (d .0) (d .1) ∙ ap (zone f) (blocks-back h c f (x ∷ xs) (l .0 .sit) (all-left (ReadsAt h) (row c f (x ∷ xs)) (spots (suc c) zs) r)))
-    (zones-back n (suc c) (f + suc (length xs) * cells c) zs h (l .1) (d .2) (all-right (ReadsAt h) (row c f (x ∷ xs)) (spots (suc c) zs) r))
+zones-back step n c e [] h l d r = refl
+zones-back step n c e (empty ∷ zs) h l d r = ap₂ {A = Zone} {B = List Zone} _∷_
+    (ap (λ (m : ℕ). zone (firstAt h c) (blocksAt step h c (firstAt h c) m)) (d .1)) (zones-back step n (suc c) e zs h l (d .2) r)
+zones-back step n c e (from f x xs ∷ zs) h l d r = ap₂ {A = Zone} {B = List Zone} _∷_
+    (ap₂ (λ (g m : ℕ). zone g (blocksAt step h c g m)) (d .0) (d .1) ∙ ap (zone f) (blocks-back step h c f (x ∷ xs) (l .0 .sit) (all-left (ReadsAt step h) (row step c f (x ∷ xs)) (spots step (suc c) zs) r)))
+    (zones-back step n (suc c) (f + suc (length xs) * cells step c) zs h (l .1) (d .2) (all-right (ReadsAt step h) (row step c f (x ∷ xs)) (spots step (suc c) zs) r))
 
 entry-next : (h : List ℕ) (c : ℕ) → drop (zoneEntryAt (suc c)) h ≡ drop 4 (drop (zoneEntryAt c) h)
 entry-next h c = let e : zoneEntryAt (suc c) ≡ zoneEntryAt c + 4 = omega arith in ap (λ (k : ℕ). drop k h) e ∙ sym (drop-drop 4 (zoneEntryAt c) h)
 
-pub entries-read : (n c e : ℕ) (zs : List Zone) (h rest : List ℕ) → n < 65536 → Fit n c e zs → drop (zoneEntryAt c) h ≡ zoneEntries zs ++ rest → Entries h c zs
+pub entries-read : (step n c e : ℕ) (zs : List Zone) (h rest : List ℕ) → n < 65536 → Fit step n c e zs → drop (zoneEntryAt c) h ≡ zoneEntries zs ++ rest → Entries h c zs
 unfolding zoneEntries bytes16 get16
-entries-read n c e [] h rest small l q = tt
-entries-read n c e (empty ∷ zs) h rest small l q = (
+entries-read step n c e [] h rest small l q = tt
+entries-read step n c e (empty ∷ zs) h rest small l q = (
   ap (get16 h) (sym (add-zero (zoneEntryAt c))) ∙ get16-at h (zoneEntries (empty ∷ zs) ++ rest) (zoneEntryAt c) 0 q,
   get16-at h (zoneEntries (empty ∷ zs) ++ rest) (zoneEntryAt c) 2 q,
-  entries-read n (suc c) e zs h rest small l (entry-next h c ∙ ap (drop 4) q),
+  entries-read step n (suc c) e zs h rest small l (entry-next h c ∙ ap (drop 4) q),
 )
-entries-read n c e (from f x xs ∷ zs) h rest small l q =
-    let g : ℕ = f + suc (length xs) * cells c in
-    let gn : g ≤ n = fit-le n (suc c) g zs (l .1) in
-    let k : suc (length xs) * 1 ≤ suc (length xs) * cells c = mul-le-mul-left (suc (length xs)) (cells-pos c) in (
+entries-read step n c e (from f x xs ∷ zs) h rest small l q =
+    let g : ℕ = f + suc (length xs) * cells step c in
+    let gn : g ≤ n = fit-le step n (suc c) g zs (l .1) in
+    let k : suc (length xs) * 1 ≤ suc (length xs) * cells step c = mul-le-mul-left (suc (length xs)) (cells-pos step c) in (
       ap (get16 h) (sym (add-zero (zoneEntryAt c))) ∙ get16-at h (zoneEntries (from f x xs ∷ zs) ++ rest) (zoneEntryAt c) 0 q ∙ get16-front f [] (omega arith),
       get16-at h (zoneEntries (from f x xs ∷ zs) ++ rest) (zoneEntryAt c) 2 q ∙ get16-front (suc (length xs)) [] (omega arith),
-      entries-read n (suc c) g zs h rest small (l .1) (entry-next h c ∙ ap (drop 4) q),
+      entries-read step n (suc c) g zs h rest small (l .1) (entry-next h c ∙ ap (drop 4) q),
     )
 
 -- ---- lengths
@@ -131,16 +131,16 @@ length-entries [] = refl
 length-entries (empty ∷ zs) = omega (arith, length-entries zs)
 length-entries (from f x xs ∷ zs) = omega (arith, length-entries zs)
 
-length-row : (c p : ℕ) (xs : List Block) → length (row c p xs) ≡ length xs
+length-row : (step c p : ℕ) (xs : List Block) → length (row step c p xs) ≡ length xs
 unfolding row
-length-row c p [] = refl
-length-row c p (x ∷ xs) = ap suc (length-row c (p + cells c) xs)
+length-row step c p [] = refl
+length-row step c p (x ∷ xs) = ap suc (length-row step c (p + cells step c) xs)
 
-pub length-spots : (c : ℕ) (zs : List Zone) → length (spots c zs) ≡ length (blocks zs)
+pub length-spots : (step c : ℕ) (zs : List Zone) → length (spots step c zs) ≡ length (blocks zs)
 unfolding spots blocks
-length-spots c [] = refl
-length-spots c (empty ∷ zs) = length-spots (suc c) zs
-length-spots c (from f x xs ∷ zs) = simp (length-append, length-row, length-spots (suc c) zs) (omega arith)
+length-spots step c [] = refl
+length-spots step c (empty ∷ zs) = length-spots step (suc c) zs
+length-spots step c (from f x xs ∷ zs) = simp (length-append, length-row step, length-spots step (suc c) zs) (omega arith)
 
 length-enter : (x : Entry) (ys : List Entry) → length (enter x ys) ≡ suc (length ys)
 unfolding enter
@@ -152,9 +152,9 @@ unfolding sorted
 length-sorted [] = refl
 length-sorted (x ∷ xs) = length-enter x (sorted xs) ∙ ap suc (length-sorted xs)
 
-pub length-dictionary : (zs : List Zone) → length (dictionary zs) ≡ length (blocks zs)
+pub length-dictionary : (step : ℕ) (zs : List Zone) → length (dictionary step zs) ≡ length (blocks zs)
 unfolding dictionary
-length-dictionary zs = length-sorted (map entryOf (spots 0 zs)) ∙ length-map (spots 0 zs) entryOf ∙ length-spots 0 zs
+length-dictionary step zs = length-sorted (map entryOf (spots step 0 zs)) ∙ length-map (spots step 0 zs) entryOf ∙ length-spots step 0 zs
 
 pub length-entriesBytes : (xs : List Entry) → length (entriesBytes xs) ≡ 6 * length xs
 unfolding entriesBytes bytes32 bytes16

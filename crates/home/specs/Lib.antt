@@ -1,3 +1,4 @@
+pub mod Layout
 pub mod Bytes
 pub mod Sound
 pub mod Examples
@@ -11,6 +12,9 @@ pub mod DictionaryLaws
 pub mod EntriesLaws
 pub mod EncodeLaws
 pub mod EmptyLaws
+pub mod First
+pub mod FirstLaws
+pub mod CoarseLaws
 pub mod LookupLaws
 pub mod Lookup
 pub mod LookupLoopLaws

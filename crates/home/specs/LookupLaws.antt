@@ -13,8 +13,8 @@ use Rattle.layout.specs.Capacities.{cells}
 use Rattle.layout.specs.Zones.{Block, Zone, blocks, find}
 use Rattle.layout.specs.Perm.{In, Pairs, after}
 use Rattle.layout.specs.Valid.{Other}
-use Rattle.layout.specs.Layout.{Sits}
-use Rattle.home.specs.Bytes.{Spot, spots, Entry, entryOf, decode, cellAt, countAt, tagAt, entryCell, entriesAt}
+use Rattle.home.specs.Layout.{Sits}
+use Rattle.home.specs.Bytes.{stepOf, Spot, spots, Entry, entryOf, decode, cellAt, countAt, tagAt, entryCell, entriesAt}
 use Rattle.home.specs.Sound.{pagesOf, sound, listOf}
 use Rattle.layout.specs.PermLaws.{psym, pulled, all-in, in-all, in-map, map-in, pin}
 use Rattle.layout.specs.FindLaws.{pfind, find-here, find-none}
@@ -60,30 +60,30 @@ module _ (h : List ℕ) (e : sound h ≡ true) where
       let t : ℕ = tagAt h i in
       let p : ℕ = entryCell h i in
       let d : Entry = record { tag = t; cell = p } in
-      let m = in-map entryOf d (spots 0 zs) (pin d (dictionary-perm zs) (subst (In d) (sound-words h e) (entry-in h 0 (get16 h 0) i (omega arith) (omega arith)))) in
+      let m = in-map entryOf d (spots (stepOf h) 0 zs) (pin d (dictionary-perm (stepOf h) zs) (subst (In d) (sound-words h e) (entry-in h 0 (get16 h 0) i (omega arith) (omega arith)))) in
       let s : Spot = m .0 in
-      let sit : Sits (s .class) (s .block) = all-in (λ (x : Spot). Sits (x .class) (x .block)) s (spots 0 zs) (spots-sit n 0 0 zs (sound-loose h e .fit)) (m .1) in
-      let g : Good n s = all-in (Good n) s (spots 0 zs) (spots-good n 0 0 zs (sound-loose h e .fit)) (m .1) in
-      let rest : List ℕ = drop (cellAt (s .cell) + 8 * cells (s .class)) h in
-      let k : drop (cellAt (s .cell)) h ≡ bytesOf s ++ rest = block-starts h s (all-in (ReadsAt h) s (spots 0 zs) (sound-reads h e) (m .1)) in
+      let sit : Sits (stepOf h) (s .class) (s .block) = all-in (λ (x : Spot). Sits (stepOf h) (x .class) (x .block)) s (spots (stepOf h) 0 zs) (spots-sit (stepOf h) n 0 0 zs (sound-loose h e .fit)) (m .1) in
+      let g : Good (stepOf h) n s = all-in (Good (stepOf h) n) s (spots (stepOf h) 0 zs) (spots-good (stepOf h) n 0 0 zs (sound-loose h e .fit)) (m .1) in
+      let rest : List ℕ = drop (cellAt (s .cell) + 8 * cells (stepOf h) (s .class)) h in
+      let k : drop (cellAt (s .cell)) h ≡ bytesOf (stepOf h) s ++ rest = block-starts (stepOf h) h s (all-in (ReadsAt (stepOf h) h) s (spots (stepOf h) 0 zs) (sound-reads h e) (m .1)) in
       let qp : p ≡ s .cell = ap (λ (x : Entry). x .cell) (m .2) in
       let qt : t ≡ s .block .tag = ap (λ (x : Entry). x .tag) (m .2) in
-      let c : countAt h (s .cell) ≡ length (s .block .list) = block-count h (s .cell) (s .class) (s .block) rest k sit in
+      let c : countAt h (s .cell) ≡ length (s .block .list) = block-count (stepOf h) h (s .cell) (s .class) (s .block) rest k sit in
       let f : find t (blocks zs) ≡ s .block .list = ap (λ (x : ℕ). find x (blocks zs)) qt
-      ∙ find-in (s .block) (blocks zs) (sound-valid h e .distinct) (subst (In (s .block)) (spots-blocks 0 zs) (map-in (λ (x : Spot). x .block) s (spots 0 zs) (m .1))) in
+      ∙ find-in (s .block) (blocks zs) (sound-valid h e .distinct) (subst (In (s .block)) (spots-blocks (stepOf h) 0 zs) (map-in (λ (x : Spot). x .block) s (spots (stepOf h) 0 zs) (m .1))) in
       record {
         some = rw (qp, c) (sit .some);
         inside = rw (qp, c) (omega (arith, sit .room, g .inside, sound-long h e));
-        list = rw (qp, c) (block-records h (s .cell) (s .class) (s .block) rest k sit ∙ sym f);
+        list = rw (qp, c) (block-records (stepOf h) h (s .cell) (s .class) (s .block) rest k sit ∙ sym f);
       }
 
   -- a tag that no entry has is unknown
   pub unknown-tag : (t : ℕ) → ((i : ℕ) → i < get16 h 0 → t ≢ tagAt h i) → listOf h t ≡ []
   unfolding listOf
   unknown-tag t f = find-none t (blocks zs) (in-all (λ (x : Block). t ≢ x .tag) (blocks zs) (λ b j q.
-      let m = in-map (λ (x : Spot). x .block) b (spots 0 zs) (subst (In b) (sym (spots-blocks 0 zs)) j) in
+      let m = in-map (λ (x : Spot). x .block) b (spots (stepOf h) 0 zs) (subst (In b) (sym (spots-blocks (stepOf h) 0 zs)) j) in
       let d : Entry = entryOf (m .0) in
-      let k = in-entry h 0 (get16 h 0) d (subst (In d) (sym (sound-words h e)) (pin d (psym (dictionary-perm zs)) (map-in entryOf (m .0) (spots 0 zs) (m .1)))) in
+      let k = in-entry h 0 (get16 h 0) d (subst (In d) (sym (sound-words h e)) (pin d (psym (dictionary-perm (stepOf h) zs)) (map-in entryOf (m .0) (spots (stepOf h) 0 zs) (m .1)))) in
       f (k .0) (omega (arith, k .1)) (q ∙ ap (λ (x : Block). x .tag) (m .2) ∙ k .2)))
 
 -- ---- tags rise with their entries' numbers, and there are at most 256
@@ -98,7 +98,7 @@ rising-at h i (suc n) a b (after x p) lo m hi =
     (λ d. rising-at h (suc i) n a b p (omega arith) m (omega arith))
 
 pub entries-rise : (h : List ℕ) (i j : ℕ) → sound h ≡ true → i < j → j < get16 h 0 → tagAt h i < tagAt h j
-entries-rise h i j t b c = rising-at h 0 (get16 h 0) i j (subst (Pairs Below) (sym (sound-words h t)) (dictionary-rising (decode h) (sound-valid h t .distinct))) (omega arith) b (omega arith)
+entries-rise h i j t b c = rising-at h 0 (get16 h 0) i j (subst (Pairs Below) (sym (sound-words h t)) (dictionary-rising (stepOf h) (decode h) (sound-valid h t .distinct))) (omega arith) b (omega arith)
 
 pub entries-few : (h : List ℕ) → sound h ≡ true → (get16 h 0 ≤ 256) × (1728 ≤ length h)
 entries-few h t = (omega (arith, sound-tags h t, sound-valid h t .few), omega (arith, sound-some h t, sound-long h t))

@@ -7,7 +7,7 @@ ghost use Prim.Native.Nat.{_+_, _≤_, _<_};
 ghost use lib.ListN.{length};
 ghost use Rattle.wire.specs.Bytes.{get16};
 ghost use Rattle.records.specs.Records.{encode as recordBytes};
-ghost use Rattle.home.specs.Bytes.{firstAt, manyAt, endAt};
+ghost use Rattle.home.specs.Bytes.{stepOf, firstAt, manyAt, endAt};
 ghost use Rattle.home.specs.Sound.{sound as isSound, listOf};
 ghost use Rattle.home.specs.Lookup.{Ordered, indexOf, slotOf, slotBlock, blockOf, offsetOf};
 
@@ -21,6 +21,14 @@ pub enum Slot {
 pub enum TagBlock {
     Known(usize, usize),
     Unknown,
+}
+
+// The step code.
+pub fn step_of(home: &[u8]) -> usize
+    requires { ⌜ 1664 ≤ length (now home) ⌝ }
+    ensures { λ r. ⌜ r ≡ stepOf (now (home .entry)) ⌝ }
+{
+    wire::get8(home, 122)
 }
 
 // A zone's first cell.
@@ -40,15 +48,15 @@ pub fn zone_count(home: &[u8], c: usize) -> usize
 }
 
 // Where it ends, if the lower zones end at e. An empty one changes nothing.
-pub fn zone_end(home: &[u8], c: usize, e: usize) -> usize
+pub fn zone_end(home: &[u8], step: usize, c: usize, e: usize) -> usize
     requires { ⌜ (c < 30) × (1664 ≤ length (now home)) ⌝ }
-    ensures { λ r. ⌜ r ≡ endAt (now (home .entry)) c e ⌝ }
+    ensures { λ r. ⌜ r ≡ endAt step (now (home .entry)) c e ⌝ }
 {
     let n = zone_count(home, c);
     if n == 0 {
         return e;
     }
-    zone_first(home, c) + n * cells(c)
+    zone_first(home, c) + n * cells(step, c)
 }
 
 // The number of a tag's entry in the dictionary, or of the one that it would be, by halving.

@@ -1,12 +1,14 @@
--- Begin and the edits, each behind the rules of what it is lent.
+-- Begin and the edits, each behind the rules of what it is lent, and format.
 use Prim.Native.Nat.{ℕ}
-use mathlib.Core.Bool.{not}
+use mathlib.Core.Bool.{not, _&&_}
 use mathlib.Core.List.{List, [], _∷_}
 use lib.ListN.{length}
-use lib.Dec.{eqb}
-use Rattle.wire.specs.Rules.{rule, Ruled, behind}
+use lib.Dec.{leb, eqb}
+use Rattle.wire.specs.Rules.{Rule, rule, first, Ruled, behind}
 use Rattle.records.specs.declared.Record.{Record}
 use Rattle.redo.specs.Image.{home}
+use Rattle.redo.specs.Stores.{formatStores}
+use Rattle.log.specs.Calls.{Plan, refuse, store, formattable}
 use Rattle.home.specs.declared.Answer.{Answer}
 use Rattle.edits.specs.Edits.{putIn, deleteIn, setIn, dropIn}
 use Rattle.gates.specs.declared.Of.the-variants.{Image, Space}
@@ -36,3 +38,10 @@ setCall w t k m = behind (gateRules Space w) (setIn w t k m)
 -- "drop a tag": with its list
 unfoldable pub dropCall : List ℕ → ℕ → Ruled Answer
 dropCall w t = behind (gateRules Space w) (dropIn w t)
+
+-- "Format takes the code", and stores it as home's byte 122; "It refuses a code other than 0 and 1 with 14 at format"
+unfoldable pub formatRules : List ℕ → ℕ → ℕ → ℕ → List Rule
+formatRules l L R step = rule 14 (not (leb step 1 && formattable l L R 122)) ∷ []
+
+unfoldable pub formatPlan : List ℕ → ℕ → ℕ → ℕ → Plan
+formatPlan l L R step = first refuse (formatRules l L R step) (store (formatStores L R 122 step))

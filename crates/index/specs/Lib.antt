@@ -1,3 +1,4 @@
 pub mod Calls
+pub mod FormatLaws
 pub mod BeginLaws
 pub mod CommitLaws

@@ -10,11 +10,11 @@ ghost use lib.ListN.{length};
 ghost use lib.Dec.{eqb};
 ghost use Rattle.wire.specs.Rules.{refusal, answered, left};
 ghost use Rattle.redo.specs.Image.{home as homeOf};
-ghost use Rattle.log.specs.Calls.{answer, after, formatPlan, recoverPlan, commitPlan};
+ghost use Rattle.log.specs.Calls.{answer, after, recoverPlan, commitPlan};
 ghost use Rattle.home.specs.Sound.{sound as isSound};
 ghost use Rattle.records.specs.Records.{key};
 ghost use Rattle.gates.specs.Gates.{gateRules};
-ghost use Rattle.index.specs.Calls.{beginCall, putCall, deleteCall, setCall, dropCall};
+ghost use Rattle.index.specs.Calls.{beginCall, putCall, deleteCall, setCall, dropCall, formatPlan};
 
 // What begin answers.
 pub enum Begun {
@@ -128,10 +128,14 @@ pub fn recover(image: &mut [u8], n: usize) -> Outcome
     log::recover(image, n)
 }
 
-// Leaves an empty index with room for L log entries and R record pages.
-pub fn format(image: &mut [u8], capacity: usize, pages: usize, n: usize) -> Outcome
-    ensures { λ r. ⌜ r ≡ answer (formatPlan (now (image .entry)) capacity pages) n ⌝ }
-    ensures { λ _. ⌜ now (image .exit) ≡ after (formatPlan (now (image .entry)) capacity pages) n (now (image .entry)) ⌝ }
+// Leaves an empty index with room for L log entries and R record pages, of this step code.
+pub fn format(image: &mut [u8], capacity: usize, pages: usize, step: usize, n: usize) -> Outcome
+    ensures { λ r. ⌜ r ≡ answer (formatPlan (now (image .entry)) capacity pages step) n ⌝ }
+    ensures { λ _. ⌜ now (image .exit) ≡ after (formatPlan (now (image .entry)) capacity pages step) n (now (image .entry)) ⌝ }
 {
-    log::format(image, capacity, pages, n)
+    if 1 < step {
+        return Outcome::Refused(14);
+    }
+    let code = step as u8;
+    log::format(image, capacity, pages, 122, code, n)
 }

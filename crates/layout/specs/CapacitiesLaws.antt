@@ -1,200 +1,222 @@
--- The class of a number of records, and that block sizes rise with the class.
+-- For each step code: the capacities grow as they should, block sizes never fall, and the class of a number of records is the smallest that holds them.
 use mathlib.Core.Path.{_≡_, refl, sym, ap, _∙_}
 use mathlib.Core.Bool.{Bool, true, _&&_}
-use mathlib.Core.List.{List, [], _∷_, _++_}
+use mathlib.Core.List.{List, [], _∷_}
 use mathlib.Core.Logic.{_≢_}
-use Prim.Native.Nat.{ℕ, zero, suc, _+_, _-_, _≤_, _<_, suc-le-suc}
+use Prim.Native.Nat.{ℕ, zero, suc, _+_, _*_, _-_, _/_, _≤_, _<_, min}
 use native.Mathlib.Omega.{arith}
-use native.Mathlib.Nat.{sub-zero, add-zero, add-suc}
-use lib.Dec.{leb}
-use lib.ListN.{length, drop, getD}
-use lib.Seq.{getD-take}
-use borrow.Author.Tests.{leb-true, leb-false}
+use native.Mathlib.Nat.{add-zero, add-suc}
+use lib.Dec.{eqb}
+use lib.ListN.{length, getD, length-take, List·getD-append}
+use lib.Seq.{getD-take, getD-append-add}
+use borrow.Author.Tests.{eqb-true}
 use Rattle.wire.specs.Cases.{by-lt, by-eq, both}
-use Rattle.layout.specs.Capacities.{capacities, capacity, under, cells, classFrom, classOf, table, short}
-use Rattle.layout.specs.Cases.{by-pick}
-use Rattle.layout.specs.Table.{table-at}
+use Rattle.layout.specs.Classes.{usable}
+use Rattle.layout.specs.Capacities.{capacities, growth, capacity, under, cells, classOf, table, short, bothCapacities, placeOf}
+use Rattle.layout.specs.Rising.{Rising}
+use Rattle.layout.specs.ClassesLaws.{usable-most, usable-known, usable-holds, usable-least, usable-rising}
+use Rattle.layout.specs.Table.{follows, table-at}
 
--- the table holds the classes
-pub table-class : (n : ℕ) → n < 990 → getD table n 0 ≡ classOf n
-unfolding table classOf
-table-class n h = table-at classOf table refl n h
+-- ---- what is computed for each code
 
-pub short-class : (n : ℕ) → n < 144 → getD short n 0 ≡ classOf n
+-- each capacity is the one before times p/q, "rounded up and ended at 989"
+unfoldable pub grows : ℕ → ℕ → List ℕ → Bool
+grows p q [] = true
+grows p q (a ∷ []) = eqb a 989
+grows p q (a ∷ (b ∷ bs)) = eqb b (min 989 ((a * p + (q - 1)) / q)) && grows p q (b ∷ bs)
+
+-- the capacities grow so and are usable, and the table of 990 numbers has the classes by them
+checked : ℕ → Bool
+unfolding grows usable
+checked step =
+    grows (growth step .0) (growth step .1) (capacities step)
+    && (usable (capacities step) && (eqb (length (table step)) 990 && follows (classOf step) 0 (table step)))
+
+computed : (step : ℕ) → checked step ≡ true
+unfolding checked growth capacities table classOf
+computed zero = refl
+computed (suc k) = refl
+
+pub capacities-grow : (step : ℕ) → grows (growth step .0) (growth step .1) (capacities step) ≡ true
+unfolding checked
+capacities-grow step = both (grows (growth step .0) (growth step .1) (capacities step)) _ (computed step) .0
+
+rest : (step : ℕ) → (usable (capacities step) ≡ true) × (length (table step) ≡ 990) × (follows (classOf step) 0 (table step) ≡ true)
+unfolding checked
+rest step =
+    let a = both (usable (capacities step)) _ (both (grows (growth step .0) (growth step .1) (capacities step)) _ (computed step) .1) in
+    let b = both (eqb (length (table step)) 990) (follows (classOf step) 0 (table step)) (a .1) in
+    (a .0, eqb-true (length (table step)) 990 (b .0), b .1)
+
+pub rising : (step : ℕ) → Rising (cells step) (classOf step)
+unfolding cells classOf
+rising step = usable-rising (capacities step) (rest step .0)
+
+-- ---- the table holds the classes
+
+pub table-class : (step n : ℕ) → n < 990 → getD (table step) n 0 ≡ classOf step n
+table-class step n h = table-at (classOf step) (table step) (rest step .2) n (omega (arith, rest step .1))
+
+pub short-class : (step n : ℕ) → n < 144 → getD (short step) n 0 ≡ classOf step n
 unfolding short
-short-class n h = getD-take 144 table n 0 h ∙ table-class n (omega arith)
+short-class step n h = getD-take 144 (table step) n 0 h ∙ table-class step n (omega arith)
 
-pub short-length : length short ≡ 144
-unfolding short table
-short-length = refl
+pub short-length : (step : ℕ) → length (short step) ≡ 144
+unfolding short
+short-length step = length-take 144 (table step) ∙ omega (arith, rest step .1)
 
 -- ---- sizes
 
-pub cells-is : (c : ℕ) → cells c ≡ capacity c + 1
+pub cells-is : (step c : ℕ) → cells step c ≡ capacity step c + 1
 unfolding cells
-cells-is c = omega arith
-
-never-falls : ℕ → List ℕ → Bool
-never-falls a [] = true
-never-falls a (b ∷ bs) = leb a b && never-falls b bs
-
-getD-mono : (a : ℕ) (bs : List ℕ) (d c : ℕ) → never-falls a (bs ++ (d ∷ [])) ≡ true → getD (a ∷ bs) c d ≤ getD (a ∷ bs) (suc c) d
-unfolding never-falls
-getD-mono a [] d zero h = leb-true a d (both (leb a d) true h .0)
-getD-mono a [] d (suc c) h = omega arith
-getD-mono a (b ∷ bs) d zero h = leb-true a b (both (leb a b) (never-falls b (bs ++ (d ∷ []))) h .0)
-getD-mono a (b ∷ bs) d (suc c) h = getD-mono b bs d c (both (leb a b) (never-falls b (bs ++ (d ∷ []))) h .1)
+cells-is step c = omega arith
 
 -- sizes never fall, and none is 0
-pub cells-mono : (c : ℕ) → cells c ≤ cells (suc c)
-unfolding cells never-falls
-cells-mono c = suc-le-suc (getD-mono 4 (drop 1 capacities) 989 c refl)
+pub cells-mono : (step c : ℕ) → cells step c ≤ cells step (suc c)
+cells-mono step = rising step .mono
 
-pub cells-rise : (c d : ℕ) → c ≤ d → cells c ≤ cells d
-cells-rise c zero g = let e : c ≡ 0 = omega arith in rw e (omega arith)
-cells-rise c (suc d) g = by-eq c (suc d) (λ e. rw e (omega arith)) (λ n. omega (arith, cells-rise c d (omega arith), cells-mono d))
+pub cells-rise : (step c d : ℕ) → c ≤ d → cells step c ≤ cells step d
+cells-rise step c zero g = let e : c ≡ 0 = omega arith in rw e (omega arith)
+cells-rise step c (suc d) g = by-eq c (suc d) (λ e. rw e (omega arith)) (λ n. omega (arith, cells-rise step c d (omega arith), cells-mono step d))
 
-pub cells-pos : (c : ℕ) → 0 < cells c
-unfolding cells
-cells-pos c = omega arith
+pub cells-pos : (step c : ℕ) → 0 < cells step c
+cells-pos step = rising step .pos
 
-at-most : ℕ → List ℕ → Bool
-at-most m [] = true
-at-most m (b ∷ bs) = leb b m && at-most m bs
+pub capacity-most : (step c : ℕ) → capacity step c ≤ 989
+unfolding capacity
+capacity-most step c = usable-most (capacities step) (rest step .0) c
 
-getD-most : (m : ℕ) (bs : List ℕ) (c : ℕ) → at-most m bs ≡ true → getD bs c m ≤ m
-unfolding at-most
-getD-most m [] c h = omega arith
-getD-most m (b ∷ bs) zero h = leb-true b m (both (leb b m) (at-most m bs) h .0)
-getD-most m (b ∷ bs) (suc c) h = getD-most m bs c (both (leb b m) (at-most m bs) h .1)
-
-pub cells-most : (c : ℕ) → cells c ≤ 990
-unfolding cells at-most
-cells-most c = suc-le-suc (getD-most 989 capacities c refl)
+pub cells-most : (step c : ℕ) → cells step c ≤ 990
+cells-most step = rising step .most
 
 -- ---- the smallest class whose capacity is at least n
 
-class-from : (c : ℕ) (ks : List ℕ) (n : ℕ) → c ≤ classFrom c ks n
-unfolding classFrom
-class-from c [] n = omega arith
-class-from c (k ∷ ks) n = by-pick (λ (d : ℕ). c ≤ d) (leb n k) (λ t. omega arith) (λ t. omega (arith, class-from (suc c) ks n))
-
--- it holds them
-holds-from : (c : ℕ) (ks : List ℕ) (n d : ℕ) → classFrom c ks n < c + length ks → n ≤ getD ks (classFrom c ks n - c) d
-unfolding classFrom
-holds-from c [] n d h = absurd (omega arith)
-holds-from c (k ∷ ks) n d h =
-    by-pick (λ (q : ℕ). q < c + suc (length ks) → n ≤ getD (k ∷ ks) (q - c) d) (leb n k)
-    (λ t b. let q : c - c ≡ 0 = omega arith in rw q (leb-true n k t))
-    (λ t b. let m : ℕ = classFrom (suc c) ks n in
-    let q : m - c ≡ suc (m - suc c) = omega (arith, class-from (suc c) ks n) in
-    rw q (holds-from (suc c) ks n d (omega arith))) h
-
--- a lower class does not
-least-from : (c : ℕ) (ks : List ℕ) (n d i : ℕ) → i < length ks → i + c < classFrom c ks n → getD ks i d < n
-unfolding classFrom
-least-from c [] n d i q h = absurd (omega arith)
-least-from c (k ∷ ks) n d zero q h = by-pick (λ (r : ℕ). 0 + c < r → k < n) (leb n k) (λ t b. absurd (omega arith)) (λ t b. leb-false n k t) h
-least-from c (k ∷ ks) n d (suc i) q h =
-    by-pick (λ (r : ℕ). suc i + c < r → getD ks i d < n) (leb n k)
-    (λ t b. absurd (omega arith))
-    (λ t b. least-from (suc c) ks n d i (omega arith) (omega arith)) h
-
-pub class-least : (n c : ℕ) → c < 30 → c < classOf n → capacity c < n
+pub class-least : (step n c : ℕ) → c < classOf step n → capacity step c < n
 unfolding classOf capacity
-class-least n c h k = least-from 0 capacities n 989 c h (omega arith)
+class-least step n c k = usable-least (capacities step) (rest step .0) n c k
 
--- fewer records have no higher class
-mono-from : (c : ℕ) (ks : List ℕ) (m n : ℕ) → m ≤ n → classFrom c ks m ≤ classFrom c ks n
-unfolding classFrom
-mono-from c [] m n h = omega arith
-mono-from c (k ∷ ks) m n h =
-    by-pick (λ (q : ℕ). q ≤ classFrom c (k ∷ ks) n) (leb m k)
-    (λ t. class-from c (k ∷ ks) n)
-    (λ t. by-pick (λ (q : ℕ). classFrom (suc c) ks m ≤ q) (leb n k)
-    (λ u. absurd (omega (arith, leb-true n k u, leb-false m k t)))
-    (λ u. mono-from (suc c) ks m n h))
-
-pub class-mono : (m n : ℕ) → m ≤ n → classOf m ≤ classOf n
-unfolding classOf
-class-mono m n h = mono-from 0 capacities m n h
-
-classes-begin : classOf (0 + 1) ≡ classOf 0
-unfolding classOf
-classes-begin = refl
-
-class-989 : classOf 989 ≡ 29
-unfolding classOf
-class-989 = refl
-
-pub class-below : (n : ℕ) → n ≤ 989 → classOf n < 30
-class-below n h = omega (arith, class-mono n 989 h, class-989)
-
-class-capacity : (n : ℕ) → classOf n < 30 → n ≤ capacity (classOf n)
+pub class-capacity : (step n : ℕ) → n ≤ 989 → n ≤ capacity step (classOf step n)
 unfolding classOf capacity
-class-capacity n h = rw sub-zero at (holds-from 0 capacities n 989 h)
+class-capacity step n h = usable-holds (capacities step) (rest step .0) n h
 
-pub class-holds : (n : ℕ) → n ≤ 989 → n < cells (classOf n)
-unfolding cells
-class-holds n h = suc-le-suc (class-capacity n (class-below n h))
+pub class-holds : (step n : ℕ) → n ≤ 989 → n < cells step (classOf step n)
+class-holds step = rising step .holds
+
+pub class-below : (step n : ℕ) → n ≤ 989 → classOf step n < 30
+class-below step = rising step .below
+
+-- "With code 1 classes from 14 up are always empty": no list has one
+pub class-coarse : (n : ℕ) → n ≤ 989 → classOf 1 n < 14
+unfolding classOf
+class-coarse n h = usable-known (capacities 1) (rest 1 .0) n h
+
+classes-begin : (step : ℕ) → classOf step (0 + 1) ≡ classOf step 0
+unfolding classOf
+classes-begin zero = refl
+classes-begin (suc k) = refl
 
 -- ---- a class by its bounds
 
-pub under-none : (c : ℕ) → c ≡ 0 → 0 ≡ under c
+pub under-none : (step c : ℕ) → c ≡ 0 → 0 ≡ under step c
 unfolding under
-under-none zero e = refl
-under-none (suc c) e = absurd (omega arith)
+under-none step zero e = refl
+under-none step (suc c) e = absurd (omega arith)
 
-pub under-some : (c : ℕ) → (c ≡ 0 → ⊥) → capacity (c - 1) ≡ under c
+pub under-some : (step c : ℕ) → (c ≡ 0 → ⊥) → capacity step (c - 1) ≡ under step c
 unfolding under
-under-some zero e = absurd (omega arith)
-under-some (suc c) e = let q : suc c - 1 ≡ c = omega arith in rw q
+under-some step zero e = absurd (omega arith)
+under-some step (suc c) e = let q : suc c - 1 ≡ c = omega arith in rw q
 
-capacity-mono : (c k : ℕ) → capacity c ≤ capacity (c + k)
-capacity-mono c zero = rw add-zero (omega arith)
-capacity-mono c (suc k) = rw add-suc (omega (arith, capacity-mono c k, cells-mono (c + k), cells-is (c + k), cells-is (suc (c + k))))
+capacity-mono : (step c k : ℕ) → capacity step c ≤ capacity step (c + k)
+capacity-mono step c zero = rw add-zero (omega arith)
+capacity-mono step c (suc k) = rw add-suc (omega (arith, capacity-mono step c k, cells-mono step (c + k), cells-is step (c + k), cells-is step (suc (c + k))))
 
 -- records of class c are more than the class below has room for
-pub class-over : (n c : ℕ) → 0 < n → n < 990 → classOf n ≡ c → under c < n
+pub class-over : (step n c : ℕ) → 0 < n → classOf step n ≡ c → under step c < n
 unfolding under
-class-over n zero a h e = a
-class-over n (suc c) a h e = class-least n c (omega (arith, class-below n (omega arith))) (omega arith)
+class-over step n zero a e = a
+class-over step n (suc c) a e = class-least step n c (omega arith)
 
-not-lower : (n c : ℕ) → under c < n → (d : ℕ) → d ≡ classOf n → d < 30 → d < c → ⊥
+not-lower : (step n c : ℕ) → n ≤ 989 → under step c < n → (d : ℕ) → d ≡ classOf step n → d < c → ⊥
 unfolding under
-not-lower n zero l d e b k = omega arith
-not-lower n (suc c) l d e b k =
+not-lower step n zero h l d e k = omega arith
+not-lower step n (suc c) h l d e k =
     let s : d + (c - d) ≡ c = omega arith in
-    let m : capacity d ≤ capacity c = rw s at (capacity-mono d (c - d)) in
-    let t : n ≤ capacity d = rw (← e) at (class-capacity n (omega arith)) in
+    let m : capacity step d ≤ capacity step c = rw s at (capacity-mono step d (c - d)) in
+    let t : n ≤ capacity step d = rw (← e) at (class-capacity step n h) in
     omega arith
 
 -- so many records as lie between the two have class c
-pub class-within : (n c : ℕ) → c < 30 → under c < n → n ≤ capacity c → classOf n ≡ c
-class-within n c b l r =
-    by-lt c (classOf n)
-    (λ k. absurd (omega (arith, class-least n c b k)))
-    (λ k. by-lt (classOf n) c (λ q. absurd (not-lower n c l (classOf n) refl (omega arith) q)) (λ q. omega arith))
+pub class-within : (step n c : ℕ) → under step c < n → n ≤ capacity step c → classOf step n ≡ c
+class-within step n c l r =
+    let h : n ≤ 989 = omega (arith, capacity-most step c) in
+    by-lt c (classOf step n)
+    (λ k. absurd (omega (arith, class-least step n c k)))
+    (λ k. by-lt (classOf step n) c (λ q. absurd (not-lower step n c h l (classOf step n) refl q)) (λ q. omega arith))
 
 -- one record more or fewer has the same class within these bounds, and another beyond them
-pub class-stays : (n c : ℕ) → n < 989 → c ≡ classOf n → n < capacity c → classOf (n + 1) ≡ classOf n
-class-stays n c h e g = by-eq n 0
-    (λ z. rw z classes-begin)
-    (λ z. class-within (n + 1) (classOf n) (class-below n (omega arith)) (omega (arith, class-over n (classOf n) (omega arith) (omega arith) refl)) (let k : n < capacity (classOf n) = rw e at g in omega arith))
+pub class-stays : (step n c : ℕ) → n < 989 → c ≡ classOf step n → n < capacity step c → classOf step (n + 1) ≡ classOf step n
+class-stays step n c h e g = by-eq n 0
+    (λ z. rw z (classes-begin step))
+    (λ z. class-within step (n + 1) (classOf step n) (omega (arith, class-over step n (classOf step n) (omega arith) refl)) (let k : n < capacity step (classOf step n) = rw e at g in omega arith))
 
-pub class-leaves : (n c : ℕ) → n < 989 → c ≡ classOf n → capacity c ≤ n → classOf (n + 1) ≢ classOf n
-class-leaves n c h e g q = omega (arith, rw (q, ← e) at (class-capacity (n + 1) (class-below (n + 1) (omega arith))))
+pub class-leaves : (step n c : ℕ) → n < 989 → c ≡ classOf step n → capacity step c ≤ n → classOf step (n + 1) ≢ classOf step n
+class-leaves step n c h e g q = omega (arith, rw (q, ← e) at (class-capacity step (n + 1) (omega arith)))
 
-pub class-kept : (n c : ℕ) → 1 < n → n ≤ 989 → c ≡ classOf n → under c < n - 1 → classOf (n - 1) ≡ classOf n
-class-kept n c l h e g = class-within (n - 1) (classOf n) (class-below n h) (rw e at g) (omega (arith, class-capacity n (class-below n h)))
+pub class-kept : (step n c : ℕ) → 1 < n → n ≤ 989 → c ≡ classOf step n → under step c < n - 1 → classOf step (n - 1) ≡ classOf step n
+class-kept step n c l h e g = class-within step (n - 1) (classOf step n) (rw e at g) (omega (arith, class-capacity step n h))
 
-pub class-lost : (n c : ℕ) → 1 < n → n ≤ 989 → c ≡ classOf n → n - 1 ≤ under c → classOf (n - 1) ≢ classOf n
-class-lost n c l h e g q = omega (arith, class-over (n - 1) c (omega arith) (omega arith) (q ∙ sym e))
+pub class-lost : (step n c : ℕ) → 1 < n → c ≡ classOf step n → n - 1 ≤ under step c → classOf step (n - 1) ≢ classOf step n
+class-lost step n c l e g q = omega (arith, class-over step (n - 1) c (omega arith) (q ∙ sym e))
 
 -- ---- what the code finds
 
-pub capacity-at : (c k v : ℕ) → c ≡ k → capacity k ≡ v → v < 990 → (v ≡ capacity c) × (v < 990)
-capacity-at c k v e f g = (sym f ∙ ap capacity (sym e), g)
+pub place-fine : (step c : ℕ) → step ≡ 0 → c ≡ placeOf step c
+unfolding placeOf
+place-fine zero c e = refl
+place-fine (suc k) c e = absurd (omega arith)
+
+pub place-coarse : (step c : ℕ) → (step ≡ 0 → ⊥) → 30 + c ≡ placeOf step c
+unfolding placeOf
+place-coarse zero c n = absurd (n refl)
+place-coarse (suc k) c n = refl
+
+capacity-place : (step c : ℕ) → c < 30 → getD bothCapacities (placeOf step c) 989 ≡ capacity step c
+unfolding bothCapacities placeOf capacity capacities
+capacity-place zero c g = List·getD-append (capacities 0) (capacities 1) 989 c g
+capacity-place (suc k) c g = getD-append-add (capacities 0) (capacities 1) c 989
+
+pub capacity-at : (step c i k v : ℕ) → c < 30 → i ≡ placeOf step c → i ≡ k → getD bothCapacities k 989 ≡ v → v < 990 → (v ≡ capacity step c) × (v < 990)
+capacity-at step c i k v g p e f h = (sym f ∙ ap (λ (j : ℕ). getD bothCapacities j 989) (sym e ∙ p) ∙ capacity-place step c g, h)
+
+pub fine-class : (step n : ℕ) → step ≡ 0 → classOf 0 n ≡ classOf step n
+fine-class step n e = rw e
+
+pub fine-short : (step : ℕ) → step ≡ 0 → short 0 ≡ short step
+fine-short step e = rw e
+
+-- codes above 0 have one table
+pub coarse-class : (step n : ℕ) → (step ≡ 0 → ⊥) → classOf 1 n ≡ classOf step n
+unfolding classOf
+coarse-class zero n q = absurd (q refl)
+coarse-class (suc k) n q = refl
+
+pub coarse-short : (step : ℕ) → (step ≡ 0 → ⊥) → short 1 ≡ short step
+unfolding short table
+coarse-short zero q = absurd (q refl)
+coarse-short (suc k) q = refl
+
+coarse-989 : (k : ℕ) → capacity (suc k) 13 ≡ 989
+unfolding capacity
+coarse-989 k = refl
+
+-- behind the last number of the row
+pub capacity-last : (step c i : ℕ) → c < 30 → i ≡ placeOf step c → 43 ≤ i → (989 ≡ capacity step c) × (989 < 990)
+unfolding placeOf
+capacity-last zero c i g p h = absurd (omega arith)
+capacity-last (suc k) c i g p h =
+    let h' : 13 ≤ c = omega arith in
+    (omega (arith, coarse-989 k, cells-rise (suc k) 13 c h', cells-is (suc k) 13, cells-is (suc k) c, capacity-most (suc k) c), omega arith)
 
 -- none of the first n numbers
 abbrev pub Past : ℕ → ℕ → Type 0

@@ -15,6 +15,7 @@ use Rattle.records.specs.declared.Record.{Record}
 use Rattle.records.specs.Records.{rising}
 use Rattle.layout.specs.Zones.{Block, Zone, empty, from, zone, place, hasTag, takeOut, blocks, find, replaced, rewritten, settle, change}
 use Rattle.layout.specs.Perm.{Perm, pskip, pswap, ptrans, Pairs, after}
+use Rattle.layout.specs.Rising.{Rising}
 use Rattle.layout.specs.Valid.{Other, Sits, Lies, Laid, Valid, Proper}
 use Rattle.layout.specs.Cases.{by-pick, Holds, holds-to}
 use Rattle.layout.specs.PermLaws.{prefl, psym, pleft, pright, pfront, plength, pall, pairs-head, pairs-tail}
@@ -113,14 +114,13 @@ module _ (cells classOf : ℕ → ℕ) where
             ∙ sym (pfind u (s .was) (v .distinct) ∙ find-skip u (s .old) (s .rest) (λ e. k (e ∙ s .tag)));
       }
 
-module _ (cells classOf : ℕ → ℕ) (mono : (c : ℕ) → cells c ≤ cells (suc c)) (pos : (c : ℕ) → 0 < cells c)
-    (holds : (n : ℕ) → n ≤ 989 → n < cells (classOf n)) (below : (n : ℕ) → n ≤ 989 → classOf n < 30) (ordered : (m n : ℕ) → m ≤ n → classOf m ≤ classOf n) where
+module _ (cells classOf : ℕ → ℕ) (up : Rising cells classOf) where
   pub sits : (t : ℕ) (r : Record) (rs : List Record) → t < 4294967296 → Proper (r ∷ rs) → Sits cells classOf (classOf (length (r ∷ rs))) (record { tag = t; list = r ∷ rs })
-  sits t r rs b h = record { tag = b; some = omega arith; room = holds (length (r ∷ rs)) (h .short); class = refl; rising = h .rising; fits = h .fits }
+  sits t r rs b h = record { tag = b; some = omega arith; room = up .holds (length (r ∷ rs)) (h .short); class = refl; rising = h .rising; fits = h .fits }
 
   module _ (n t : ℕ) (zs : List Zone) (v : Valid cells classOf n zs) (bt : t < 4294967296) where
     drop-changed : hasTag t (blocks zs) ≡ true → Changed cells classOf t n [] zs (takeOut cells t 0 0 zs)
-    drop-changed i = let k : TakenOut cells classOf t n zs (takeOut cells t 0 0 zs) = takeOut-valid cells classOf pos t n zs v i in
+    drop-changed i = let k : TakenOut cells classOf t n zs (takeOut cells t 0 0 zs) = takeOut-valid cells classOf (up .pos) t n zs v i in
         record { valid = k .valid; found = find-none t (blocks (takeOut cells t 0 0 zs)) (k .gone); others = k .others }
 
     module _ (r : Record) (rs : List Record) (l : Proper (r ∷ rs)) where
@@ -139,18 +139,18 @@ module _ (cells classOf : ℕ → ℕ) (mono : (c : ℕ) → cells c ≤ cells (
           let k : Lacks t (blocks zs) = lacks-has t (blocks zs) i in
           holds-to (Placed cells classOf n b zs) (Changed cells classOf t n (r ∷ rs) zs) (settle cells n c b zs)
           (λ zs' p. settled-changed zs zs' v k (λ u q. refl) p)
-          (settle-holds cells classOf mono pos n c b zs v (sits t r rs bt l) (below (length (r ∷ rs)) (l .short)) k few)
+          (settle-holds cells classOf (up .mono) (up .pos) n c b zs v (sits t r rs bt l) (up .below (length (r ∷ rs)) (l .short)) k few)
 
       moved-changed : hasTag t (blocks zs) ≡ true → Holds (Changed cells classOf t n (r ∷ rs) zs) (settle cells n (classOf (length (r ∷ rs))) (record { tag = t; list = r ∷ rs }) (takeOut cells t 0 0 zs))
       moved-changed i =
           let b : Block = record { tag = t; list = r ∷ rs } in
           let c : ℕ = classOf (length (r ∷ rs)) in
           let ys : List Zone = takeOut cells t 0 0 zs in
-          let k : TakenOut cells classOf t n zs ys = takeOut-valid cells classOf pos t n zs v i in
-          let m : suc (length (blocks ys)) ≡ length (blocks zs) = plength (takeOut-taken cells classOf pos t n 0 0 zs (v .laid) i .out .same) in
+          let k : TakenOut cells classOf t n zs ys = takeOut-valid cells classOf (up .pos) t n zs v i in
+          let m : suc (length (blocks ys)) ≡ length (blocks zs) = plength (takeOut-taken cells classOf (up .pos) t n 0 0 zs (v .laid) i .out .same) in
           holds-to (Placed cells classOf n b ys) (Changed cells classOf t n (r ∷ rs) zs) (settle cells n c b ys)
           (λ zs' p. settled-changed ys zs' (k .valid) (k .gone) (k .others) p)
-          (settle-holds cells classOf mono pos n c b ys (k .valid) (sits t r rs bt l) (below (length (r ∷ rs)) (l .short)) (k .gone) (omega (arith, m, v .few)))
+          (settle-holds cells classOf (up .mono) (up .pos) n c b ys (k .valid) (sits t r rs bt l) (up .below (length (r ∷ rs)) (l .short)) (k .gone) (omega (arith, m, v .few)))
 
       same-changed : hasTag t (blocks zs) ≡ true → classOf (length (find t (blocks zs))) ≡ classOf (length (r ∷ rs)) → Changed cells classOf t n (r ∷ rs) zs (rewritten t (r ∷ rs) zs)
       same-changed i q =
@@ -178,8 +178,8 @@ module _ (cells classOf : ℕ → ℕ) (mono : (c : ℕ) → cells c ≤ cells (
     shorter-some (r ∷ rs) i h = by-pick IsSome (hasTag t (blocks zs))
         (λ p. by-pick IsSome (eqb (classOf (length (find t (blocks zs)))) (classOf (length (r ∷ rs)))) (λ q. tt)
         (λ q. let ne : classOf (length (find t (blocks zs))) ≢ classOf (length (r ∷ rs)) = eqb-false _ _ q in
-        let le : classOf (length (r ∷ rs)) ≤ classOf (length (find t (blocks zs))) = ordered (length (r ∷ rs)) (length (find t (blocks zs))) h in
+        let le : classOf (length (r ∷ rs)) ≤ classOf (length (find t (blocks zs))) = up .ordered (length (r ∷ rs)) (length (find t (blocks zs))) h in
         let y : IsSome (place cells n 0 0 (classOf (length (r ∷ rs))) (record { tag = t; list = r ∷ rs }) (takeOut cells t 0 0 zs)) =
-        shrink-room cells classOf mono pos t n (classOf (length (r ∷ rs))) (record { tag = t; list = r ∷ rs }) zs v i (omega arith) in
-        rw (settle-placed cells classOf mono pos n (classOf (length (r ∷ rs))) (record { tag = t; list = r ∷ rs }) (takeOut cells t 0 0 zs) y) y))
+        shrink-room cells classOf (up .mono) (up .pos) t n (classOf (length (r ∷ rs))) (record { tag = t; list = r ∷ rs }) zs v i (omega arith) in
+        rw (settle-placed cells classOf (up .mono) (up .pos) n (classOf (length (r ∷ rs))) (record { tag = t; list = r ∷ rs }) (takeOut cells t 0 0 zs) y) y))
         (λ p. never (sym p ∙ i))

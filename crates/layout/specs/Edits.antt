@@ -8,7 +8,7 @@ use Rattle.wire.specs.Rules.{Rule, rule}
 use Rattle.records.specs.declared.Record.{Record}
 use Rattle.records.specs.Records.{key, look, held, insert, remove, amend}
 use Rattle.layout.specs.Zones.{Zone, blocks, hasTag, find}
-use Rattle.layout.specs.Layout.{totalAfter}
+use Rattle.layout.specs.Sizes.{totalAfter}
 
 -- "Each answers the record count of that list afterwards"
 pub record Edit : Type 0 where
@@ -16,14 +16,14 @@ pub record Edit : Type 0 where
   pub list : List Record
 
 -- "8: put, primary part already listed", "10: put to a list of 989", "11: put, new tag, 256 present"; 12: "the sizes of all blocks after the edit add up to more than the record area"
-unfoldable pub put : ℕ → ℕ → Record → List Zone → Edit
-put area t r zs =
+unfoldable pub put : (ℕ → ℕ) → (ℕ → ℕ) → ℕ → ℕ → Record → List Zone → Edit
+put cells classOf area t r zs =
     let rs : List Record = find t (blocks zs) in
     record {
       rules = rule 8 (held (look (key r) rs))
           ∷ rule 10 (leb 989 (length rs))
           ∷ rule 11 (not (hasTag t (blocks zs)) && leb 256 (length (blocks zs)))
-          ∷ rule 12 (ltb area (totalAfter t (insert r rs) zs))
+          ∷ rule 12 (ltb area (totalAfter cells classOf t (insert r rs) zs))
           ∷ [];
       list = insert r rs;
     }

@@ -16,18 +16,16 @@ use Rattle.wire.specs.Bytes.{isSome}
 use Rattle.records.specs.declared.Record.{Record}
 use Rattle.records.specs.Records.{Fits, key, rising, look, held, insert, remove, lasting, amend}
 use Rattle.records.specs.Order.{rising-nil, insert-rising, remove-rising, amend-rising}
-use Rattle.layout.specs.Capacities.{cells, classOf}
-use Rattle.layout.specs.CapacitiesLaws.{cells-mono, cells-pos, cells-most, class-below, class-holds, class-mono}
-use Rattle.layout.specs.Zones.{Block, Zone, empty, from, hasTag, blocks, find, total}
-use Rattle.layout.specs.Layout.{Sits, Laid, Valid, change, totalAfter}
+use Rattle.layout.specs.Rising.{Rising}
+use Rattle.layout.specs.Zones.{Block, Zone, empty, from, hasTag, blocks, find, total, change}
 use Rattle.layout.specs.Edits.{recordRules, put, delete, setMinutes, dropTag}
 use Rattle.layout.specs.Cases.{by-pick, some-is, Holds}
 use Rattle.layout.specs.FindLaws.{by-tag, has-here, has-skip, find-here, find-skip}
-use Rattle.layout.specs.Sizes.{blockSize}
+use Rattle.layout.specs.Sizes.{blockSize, totalAfter}
 use Rattle.layout.specs.AfreshLaws.{laid-total}
 use Rattle.layout.specs.ChangeLaws.{Changed, Open, change-changed, shorter-some}
 use Rattle.layout.specs.ExactLaws.{had, change-exactly}
-use Rattle.layout.specs.Valid.{Proper}
+use Rattle.layout.specs.Valid.{Sits, Laid, Valid, Proper}
 
 -- ---- lists
 
@@ -82,24 +80,12 @@ insert-listed r rs f h g l = record {
   short = omega (arith, length-insert r rs);
 }
 
--- ---- the lists of a valid layout
-
-listed : (c : ℕ) (b : Block) → Sits c b → Proper (b .list)
-listed c b s = record { rising = s .rising; fits = s .fits; short = omega (arith, s .room, cells-most c) }
-
-all-listed : (n c e : ℕ) (zs : List Zone) → Laid n c e zs → All (λ (b : Block). Proper (b .list)) (blocks zs)
-unfolding blocks
-all-listed n c e [] h = nothing
-all-listed n c e (empty ∷ zs) h = all-listed n (suc c) e zs h
-all-listed n c e (from f x xs ∷ zs) h = all-append (all-map (listed c) (h .0 .sit)) (all-listed n (suc c) (f + suc (length xs) * cells c) zs (h .1))
+-- ---- the lists of blocks
 
 find-listed : (t : ℕ) (bs : List Block) → All (λ (b : Block). Proper (b .list)) bs → Proper (find t bs)
 unfolding find
 find-listed t [] h = record { rising = rising-nil 0; fits = nothing; short = omega arith }
 find-listed t (x ∷ xs) (more l h) = by-pick Proper (eqb (x .tag) t) (λ p. l) (λ p. find-listed t xs h)
-
-pub valid-listed : (n t : ℕ) (zs : List Zone) → Valid n zs → Proper (find t (blocks zs))
-valid-listed n t zs v = find-listed t (blocks zs) (all-listed n 0 0 zs (v .laid))
 
 -- a tag with a record is there
 pub has-held : (t k : ℕ) (bs : List Block) → held (look k (find t bs)) ≡ true → hasTag t bs ≡ true
@@ -107,13 +93,6 @@ unfolding find hasTag look
 has-held t k [] h = never h
 has-held t k (x ∷ xs) h =
     by-tag t x (λ e. has-here t x xs e) (λ n. has-skip t x xs n ∙ has-held t k xs (ap (λ (l : List Record). held (look k l)) (sym (find-skip t x xs n)) ∙ h))
-
--- "a list that becomes empty loses its dictionary entry": no block is empty
-all-some : (n c e : ℕ) (zs : List Zone) → Laid n c e zs → All (λ (b : Block). 0 < length (b .list)) (blocks zs)
-unfolding blocks
-all-some n c e [] h = nothing
-all-some n c e (empty ∷ zs) h = all-some n (suc c) e zs h
-all-some n c e (from f x xs ∷ zs) h = all-append (all-map (λ b s. s .some) (h .0 .sit)) (all-some n (suc c) (f + suc (length xs) * cells c) zs (h .1))
 
 find-empty : (t : ℕ) (bs : List Block) → All (λ (b : Block). 0 < length (b .list)) bs → find t bs ≡ [] → hasTag t bs ≡ false
 unfolding hasTag
@@ -123,85 +102,107 @@ find-empty t (x ∷ xs) (more g h) e =
     (λ q. let z : length (x .list) ≡ 0 = ap length (sym (find-here t x xs q) ∙ e) in absurd (omega arith))
     (λ n. has-skip t x xs n ∙ find-empty t xs h (sym (find-skip t x xs n) ∙ e))
 
-pub empty-unknown : (n t : ℕ) (zs : List Zone) → Valid n zs → find t (blocks zs) ≡ [] → hasTag t (blocks zs) ≡ false
-empty-unknown n t zs v e = find-empty t (blocks zs) (all-some n 0 0 zs (v .laid)) e
+-- ---- with any table of sizes and classes
 
--- ---- edits that are not refused
+module _ (cells classOf : ℕ → ℕ) (up : Rising cells classOf) where
+  listed : (c : ℕ) (b : Block) → Sits cells classOf c b → Proper (b .list)
+  listed c b s = record { rising = s .rising; fits = s .fits; short = omega (arith, s .room, up .most c) }
 
--- all blocks lie in the area
-pub total-low : (n : ℕ) (zs : List Zone) → Valid n zs → total cells 0 zs ≤ n
-total-low n zs v = omega (arith, laid-total cells classOf n 0 0 zs (v .laid))
+  all-listed : (n c e : ℕ) (zs : List Zone) → Laid cells classOf n c e zs → All (λ (b : Block). Proper (b .list)) (blocks zs)
+  unfolding blocks
+  all-listed n c e [] h = nothing
+  all-listed n c e (empty ∷ zs) h = all-listed n (suc c) e zs h
+  all-listed n c e (from f x xs ∷ zs) h = all-append (all-map (listed c) (h .0 .sit)) (all-listed n (suc c) (f + suc (length xs) * cells c) zs (h .1))
 
-module _ (n t : ℕ) (zs : List Zone) (v : Valid n zs) (bt : t < 4294967296) where
-  abbrev pub Free : List Record → Type 0
-  Free rs = Open cells classOf cells-mono cells-pos class-holds class-below class-mono n t zs v bt rs
+  pub valid-listed : (n t : ℕ) (zs : List Zone) → Valid cells classOf n zs → Proper (find t (blocks zs))
+  valid-listed n t zs v = find-listed t (blocks zs) (all-listed n 0 0 zs (v .laid))
 
-  pub changed : (rs : List Record) → Proper rs → Free rs → Holds (Changed cells classOf t n rs zs) (change n t rs zs)
-  changed rs l o = change-changed cells classOf cells-mono cells-pos class-holds class-below class-mono n t zs v bt rs l o
+  -- "a list that becomes empty loses its dictionary entry": no block is empty
+  all-some : (n c e : ℕ) (zs : List Zone) → Laid cells classOf n c e zs → All (λ (b : Block). 0 < length (b .list)) (blocks zs)
+  unfolding blocks
+  all-some n c e [] h = nothing
+  all-some n c e (empty ∷ zs) h = all-some n (suc c) e zs h
+  all-some n c e (from f x xs ∷ zs) h = all-append (all-map (λ b s. s .some) (h .0 .sit)) (all-some n (suc c) (f + suc (length xs) * cells c) zs (h .1))
 
-  pub shorter : (rs : List Record) → hasTag t (blocks zs) ≡ true → length rs ≤ length (find t (blocks zs)) → IsSome (change n t rs zs)
-  shorter rs i h = shorter-some cells classOf cells-mono cells-pos class-holds class-below class-mono n t zs v bt rs i h
+  pub empty-unknown : (n t : ℕ) (zs : List Zone) → Valid cells classOf n zs → find t (blocks zs) ≡ [] → hasTag t (blocks zs) ≡ false
+  empty-unknown n t zs v e = find-empty t (blocks zs) (all-some n 0 0 zs (v .laid)) e
 
-  -- "Refusal 12 then means only this"
-  pub exactly : (rs : List Record) → Proper rs → isSome (change n t rs zs) ≡ leb (totalAfter t rs zs) n
-  exactly rs l = change-exactly cells classOf cells-mono cells-pos class-holds class-below class-mono n t zs v bt rs l
+  -- ---- edits that are not refused
 
-  -- the size of the tag's block, which is one of all
-  pub had-size : hasTag t (blocks zs) ≡ true → (blockSize cells classOf (find t (blocks zs)) ≡ cells (classOf (length (find t (blocks zs))))) × (blockSize cells classOf (find t (blocks zs)) ≤ total cells 0 zs)
-  had-size i = let k = had cells classOf cells-mono cells-pos class-holds class-below class-mono n t zs v bt i in (k .size, omega (arith, k .others))
+  -- all blocks lie in the area
+  pub total-low : (n : ℕ) (zs : List Zone) → Valid cells classOf n zs → total cells 0 zs ≤ n
+  total-low n zs v = omega (arith, laid-total cells classOf n 0 0 zs (v .laid))
 
-  -- a tag that is there may have any list
-  pub free-any : (rs : List Record) → hasTag t (blocks zs) ≡ true → Free rs
-  free-any [] i = i
-  free-any (r ∷ rs) i = λ k. never (sym k ∙ i)
+  module _ (n t : ℕ) (zs : List Zone) (v : Valid cells classOf n zs) (bt : t < 4294967296) where
+    abbrev pub Free : List Record → Type 0
+    Free rs = Open cells classOf up n t zs v bt rs
 
-  -- a list that the tag may have: it may stand in a block, the dictionary has an entry for it, and there is room
-  pub record Fine (rs : List Record) : Type 0 where
-    pub listed : Proper rs
-    pub free : Free rs
-    pub room : isSome (change n t rs zs) ≡ true
+    pub changed : (rs : List Record) → Proper rs → Free rs → Holds (Changed cells classOf t n rs zs) (change cells classOf n t rs zs)
+    changed rs l o = change-changed cells classOf up n t zs v bt rs l o
 
-  -- a shorter list, or one as long
-  no-longer : (rs : List Record) → Proper rs → length rs ≤ length (find t (blocks zs)) → hasTag t (blocks zs) ≡ true → Fine rs
-  no-longer rs l b i = record { listed = l; free = free-any rs i; room = some-is (change n t rs zs) (shorter rs i b) }
+    pub shorter : (rs : List Record) → hasTag t (blocks zs) ≡ true → length rs ≤ length (find t (blocks zs)) → IsSome (change cells classOf n t rs zs)
+    shorter rs i h = shorter-some cells classOf up n t zs v bt rs i h
 
-  abbrev list : List Record
-  list = find t (blocks zs)
+    -- "Refusal 12 then means only this"
+    pub exactly : (rs : List Record) → Proper rs → isSome (change cells classOf n t rs zs) ≡ leb (totalAfter cells classOf t rs zs) n
+    exactly rs l = change-exactly cells classOf up n t zs v bt rs l
 
-  proper : Proper list
-  proper = valid-listed n t zs v
+    -- the size of the tag's block, which is one of all
+    pub had-size : hasTag t (blocks zs) ≡ true → (blockSize cells classOf (find t (blocks zs)) ≡ cells (classOf (length (find t (blocks zs))))) × (blockSize cells classOf (find t (blocks zs)) ≤ total cells 0 zs)
+    had-size i = let k = had cells classOf up n t zs v bt i in (k .size, omega (arith, k .others))
 
-  known : (k : ℕ) → refusal (recordRules t k zs) ≡ none → hasTag t (blocks zs) ≡ true
-  known k e = has-held t k (blocks zs) (not-false (held (look k list)) (passes 9 (not (held (look k list))) [] e .0))
+    -- a tag that is there may have any list
+    pub free-any : (rs : List Record) → hasTag t (blocks zs) ≡ true → Free rs
+    free-any [] i = i
+    free-any (r ∷ rs) i = λ k. never (sym k ∙ i)
 
-  -- "A delete never meets it": where the record is listed there is room
-  pub delete-fine : (k : ℕ) → refusal (delete t k zs .rules) ≡ none → Fine (delete t k zs .list)
-  unfolding delete
-  delete-fine k e = no-longer (remove k list) (remove-listed k list proper) (length-remove k list) (known k e)
+    -- a list that the tag may have: it may stand in a block, the dictionary has an entry for it, and there is room
+    pub record Fine (rs : List Record) : Type 0 where
+      pub listed : Proper rs
+      pub free : Free rs
+      pub room : isSome (change cells classOf n t rs zs) ≡ true
 
-  pub set-fine : (k m : ℕ) → m < 256 → refusal (setMinutes t k m zs .rules) ≡ none → Fine (setMinutes t k m zs .list)
-  unfolding setMinutes
-  set-fine k m b e = no-longer (amend k m list) (amend-listed k m list b proper) (omega (arith, length-amend k m list)) (known k e)
+    -- a shorter list, or one as long
+    no-longer : (rs : List Record) → Proper rs → length rs ≤ length (find t (blocks zs)) → hasTag t (blocks zs) ≡ true → Fine rs
+    no-longer rs l b i = record { listed = l; free = free-any rs i; room = some-is (change cells classOf n t rs zs) (shorter rs i b) }
 
-  pub drop-fine : refusal (dropTag t zs .rules) ≡ none → Fine []
-  unfolding dropTag
-  drop-fine e = no-longer [] (record { rising = rising-nil 0; fits = nothing; short = omega arith }) (omega arith) (not-false (hasTag t (blocks zs)) (passes 9 (not (hasTag t (blocks zs))) [] e .0))
+    abbrev list : List Record
+    list = find t (blocks zs)
 
-  -- the dictionary has an entry for it
-  free-new : (rs : List Record) → 0 < length rs → not (hasTag t (blocks zs)) && leb 256 (length (blocks zs)) ≡ false → Free rs
-  free-new [] h o = absurd (omega arith)
-  free-new (r ∷ rs) h o = λ k. leb-false 256 (length (blocks zs)) (rw k at o)
+    proper : Proper list
+    proper = valid-listed n t zs v
 
-  pub put-fine : (r : Record) → Fits r → refusal (put n t r zs .rules) ≡ none → Fine (insert r list)
-  unfolding put
-  put-fine r f e =
-      let a = passes 8 (held (look (key r) list)) _ e in
-      let b = passes 10 (leb 989 (length list)) _ (a .1) in
-      let c = passes 11 (not (hasTag t (blocks zs)) && leb 256 (length (blocks zs))) _ (b .1) in
-      let d = passes 12 (ltb n (totalAfter t (insert r list) zs)) [] (c .1) in
-      let l : Proper (insert r list) = insert-listed r list f (a .0) (leb-false 989 (length list) (b .0)) proper in
-      record {
-        listed = l;
-        free = free-new (insert r list) (omega (arith, length-insert r list)) (c .0);
-        room = exactly (insert r list) l ∙ le-leb (totalAfter t (insert r list) zs) n (ltb-false n (totalAfter t (insert r list) zs) (d .0));
-      }
+    known : (k : ℕ) → refusal (recordRules t k zs) ≡ none → hasTag t (blocks zs) ≡ true
+    known k e = has-held t k (blocks zs) (not-false (held (look k list)) (passes 9 (not (held (look k list))) [] e .0))
+
+    -- "A delete never meets it": where the record is listed there is room
+    pub delete-fine : (k : ℕ) → refusal (delete t k zs .rules) ≡ none → Fine (delete t k zs .list)
+    unfolding delete
+    delete-fine k e = no-longer (remove k list) (remove-listed k list proper) (length-remove k list) (known k e)
+
+    pub set-fine : (k m : ℕ) → m < 256 → refusal (setMinutes t k m zs .rules) ≡ none → Fine (setMinutes t k m zs .list)
+    unfolding setMinutes
+    set-fine k m b e = no-longer (amend k m list) (amend-listed k m list b proper) (omega (arith, length-amend k m list)) (known k e)
+
+    pub drop-fine : refusal (dropTag t zs .rules) ≡ none → Fine []
+    unfolding dropTag
+    drop-fine e = no-longer [] (record { rising = rising-nil 0; fits = nothing; short = omega arith }) (omega arith) (not-false (hasTag t (blocks zs)) (passes 9 (not (hasTag t (blocks zs))) [] e .0))
+
+    -- the dictionary has an entry for it
+    free-new : (rs : List Record) → 0 < length rs → not (hasTag t (blocks zs)) && leb 256 (length (blocks zs)) ≡ false → Free rs
+    free-new [] h o = absurd (omega arith)
+    free-new (r ∷ rs) h o = λ k. leb-false 256 (length (blocks zs)) (rw k at o)
+
+    pub put-fine : (r : Record) → Fits r → refusal (put cells classOf n t r zs .rules) ≡ none → Fine (insert r list)
+    unfolding put
+    put-fine r f e =
+        let a = passes 8 (held (look (key r) list)) _ e in
+        let b = passes 10 (leb 989 (length list)) _ (a .1) in
+        let c = passes 11 (not (hasTag t (blocks zs)) && leb 256 (length (blocks zs))) _ (b .1) in
+        let d = passes 12 (ltb n (totalAfter cells classOf t (insert r list) zs)) [] (c .1) in
+        let l : Proper (insert r list) = insert-listed r list f (a .0) (leb-false 989 (length list) (b .0)) proper in
+        record {
+          listed = l;
+          free = free-new (insert r list) (omega (arith, length-insert r list)) (c .0);
+          room = exactly (insert r list) l ∙ le-leb (totalAfter cells classOf t (insert r list) zs) n (ltb-false n (totalAfter cells classOf t (insert r list) zs) (d .0));
+        }

@@ -14,6 +14,7 @@ use Rattle.records.specs.declared.Record.{Record}
 use Rattle.layout.specs.Zones.{Block, Zone, empty, from, zone, blocks, hasTag, find, replaced, rewritten, takeOut, total, settle, change}
 use Rattle.layout.specs.Perm.{sum}
 use Rattle.layout.specs.PermLaws.{psym, plength, pall, psum}
+use Rattle.layout.specs.Rising.{Rising}
 use Rattle.layout.specs.Valid.{Sits, Valid, Proper}
 use Rattle.layout.specs.Cases.{by-pick, Holds, holds-to}
 use Rattle.layout.specs.FindLaws.{pfind, find-here, find-none, lacks-has}
@@ -51,8 +52,7 @@ rewritten-total cells t rs c (from f x xs ∷ zs) =
     (λ p. zone-total cells c f (replaced t rs (x ∷ xs)) zs ∙ ap (λ (n : ℕ). n * cells c + total cells (suc c) zs) (replaced-length t rs (x ∷ xs)))
     (λ p. ap (λ (n : ℕ). suc (length xs) * cells c + n) (rewritten-total cells t rs (suc c) zs))
 
-module _ (cells classOf : ℕ → ℕ) (mono : (c : ℕ) → cells c ≤ cells (suc c)) (pos : (c : ℕ) → 0 < cells c)
-    (holds : (n : ℕ) → n ≤ 989 → n < cells (classOf n)) (below : (n : ℕ) → n ≤ 989 → classOf n < 30) (ordered : (m n : ℕ) → m ≤ n → classOf m ≤ classOf n)
+module _ (cells classOf : ℕ → ℕ) (up : Rising cells classOf)
     (n t : ℕ) (zs : List Zone) (v : Valid cells classOf n zs) (bt : t < 4294967296) where
   abbrev old : List Record
   old = find t (blocks zs)
@@ -75,7 +75,7 @@ module _ (cells classOf : ℕ → ℕ) (mono : (c : ℕ) → cells c ≤ cells (
   pub had : hasTag t (blocks zs) ≡ true → Had
   unfolding sum
   had i =
-      let k : Taken cells classOf t n 0 0 (blocks zs) ys = takeOut-taken cells classOf pos t n 0 0 zs (v .laid) i in
+      let k : Taken cells classOf t n 0 0 (blocks zs) ys = takeOut-taken cells classOf (up .pos) t n 0 0 zs (v .laid) i in
       let x : Block = k .out .block in
       let f : old ≡ x .list = pfind t (psym (k .out .same)) (v .distinct) ∙ find-here t x (blocks ys) (k .out .tag) in
       let g : 0 < length (x .list) = all-head (pall (λ (y : Block). 0 < length (y .list)) (psym (k .out .same)) (blocks-some cells classOf 0 zs (laid-seated cells classOf n 0 0 zs (v .laid)))) in
@@ -85,7 +85,7 @@ module _ (cells classOf : ℕ → ℕ) (mono : (c : ℕ) → cells c ≤ cells (
           arith,
           ap (blockSize cells classOf) f,
           psum size (k .out .same),
-          sized ys (takeOut-valid cells classOf pos t n zs v i .valid),
+          sized ys (takeOut-valid cells classOf (up .pos) t n zs v i .valid),
           sized zs v,
         );
       }
@@ -105,18 +105,18 @@ module _ (cells classOf : ℕ → ℕ) (mono : (c : ℕ) → cells c ≤ cells (
       let b : Block = record { tag = t; list = r ∷ rs } in
       let c : ℕ = classOf (length (r ∷ rs)) in
       let m : ℕ = total cells 0 zs - blockSize cells classOf old + cells c in
-      let g : c < 30 = below (length (r ∷ rs)) (l .short) in
+      let g : c < 30 = up .below (length (r ∷ rs)) (l .short) in
       by-pick (λ (o : Option (List Zone)). isSome o ≡ leb m n) (hasTag t (blocks zs))
       (λ i. by-pick (λ (o : Option (List Zone)). isSome o ≡ leb m n) (eqb (classOf (length old)) c)
       (λ p. sym (le-leb m n (omega (arith, low, ap cells (eqb-true (classOf (length old)) c p), had i .size, had i .others))))
-      (λ p. let k : TakenOut cells classOf t n zs ys = takeOut-valid cells classOf pos t n zs v i in
-      settle-exactly cells classOf mono pos n c b ys (k .valid .laid) (sits cells classOf mono pos holds below ordered t r rs bt l) (omega (arith, k .valid .classes))
+      (λ p. let k : TakenOut cells classOf t n zs ys = takeOut-valid cells classOf (up .pos) t n zs v i in
+      settle-exactly cells classOf (up .mono) (up .pos) n c b ys (k .valid .laid) (sits cells classOf up t r rs bt l) (omega (arith, k .valid .classes))
       ∙ ap (λ (x : ℕ). leb x n) (omega (arith, had i .others))))
-      (λ i. settle-exactly cells classOf mono pos n c b zs (v .laid) (sits cells classOf mono pos holds below ordered t r rs bt l) (omega (arith, v .classes))
+      (λ i. settle-exactly cells classOf (up .mono) (up .pos) n c b zs (v .laid) (sits cells classOf up t r rs bt l) (omega (arith, v .classes))
       ∙ ap (λ (x : ℕ). leb x n) (omega (arith, none-had i)))
 
   -- and then that is the sum of their sizes
-  pub change-total : (rs : List Record) → Proper rs → Open cells classOf mono pos holds below ordered n t zs v bt rs
+  pub change-total : (rs : List Record) → Proper rs → Open cells classOf up n t zs v bt rs
       → Holds (λ (zs' : List Zone). total cells 0 zs' ≡ totalAfter cells classOf t rs zs) (change cells classOf n t rs zs)
   unfolding change blockSize totalAfter sum
   change-total [] l i = omega (arith, had i .others)
@@ -124,13 +124,13 @@ module _ (cells classOf : ℕ → ℕ) (mono : (c : ℕ) → cells c ≤ cells (
       let b : Block = record { tag = t; list = r ∷ rs } in
       let c : ℕ = classOf (length (r ∷ rs)) in
       let Sum : List Zone → Type 0 = λ (zs' : List Zone). total cells 0 zs' ≡ total cells 0 zs - blockSize cells classOf old + cells c in
-      let s : Sits cells classOf c b = sits cells classOf mono pos holds below ordered t r rs bt l in
-      let g : c < 30 = below (length (r ∷ rs)) (l .short) in
+      let s : Sits cells classOf c b = sits cells classOf up t r rs bt l in
+      let g : c < 30 = up .below (length (r ∷ rs)) (l .short) in
       by-pick (Holds Sum) (hasTag t (blocks zs))
       (λ i. by-pick (Holds Sum) (eqb (classOf (length old)) c)
       (λ p. omega (arith, rewritten-total cells t (r ∷ rs) 0 zs, ap cells (eqb-true (classOf (length old)) c p), had i .size, had i .others))
-      (λ p. let k : TakenOut cells classOf t n zs ys = takeOut-valid cells classOf pos t n zs v i in
+      (λ p. let k : TakenOut cells classOf t n zs ys = takeOut-valid cells classOf (up .pos) t n zs v i in
       holds-to (Placed cells classOf n b ys) Sum (settle cells n c b ys) (λ zs' m. omega (arith, sized zs' (m .valid), psum size (m .same), sized ys (k .valid), had i .others))
-      (settle-holds cells classOf mono pos n c b ys (k .valid) s g (k .gone) (omega (arith, plength (takeOut-taken cells classOf pos t n 0 0 zs (v .laid) i .out .same), v .few)))))
+      (settle-holds cells classOf (up .mono) (up .pos) n c b ys (k .valid) s g (k .gone) (omega (arith, plength (takeOut-taken cells classOf (up .pos) t n 0 0 zs (v .laid) i .out .same), v .few)))))
       (λ i. holds-to (Placed cells classOf n b zs) Sum (settle cells n c b zs) (λ zs' m. omega (arith, sized zs' (m .valid), psum size (m .same), sized zs v, none-had i))
-      (settle-holds cells classOf mono pos n c b zs v s g (lacks-has t (blocks zs) i) (o i)))
+      (settle-holds cells classOf (up .mono) (up .pos) n c b zs v s g (lacks-has t (blocks zs) i) (o i)))

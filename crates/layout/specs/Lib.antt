@@ -1,11 +1,13 @@
+pub mod Classes
 pub mod Capacities
 pub mod Zones
 pub mod Perm
 pub mod Valid
-pub mod Layout
 pub mod Edits
 pub mod Cases
 pub mod Table
+pub mod Rising
+pub mod ClassesLaws
 pub mod CapacitiesLaws
 pub mod PermLaws
 pub mod FindLaws
@@ -19,5 +21,6 @@ pub mod Sizes
 pub mod AfreshLaws
 pub mod ChangeLaws
 pub mod ExactLaws
+pub mod OtherTable
 pub mod EditsLaws
 pub mod ValidLaws

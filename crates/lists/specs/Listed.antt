@@ -9,8 +9,8 @@ use Rattle.wire.specs.Bytes.{isSome}
 use Rattle.records.specs.declared.Record.{Record}
 use Rattle.records.specs.Records.{Fits, key, look, held, rank, encode as recordBytes}
 use Rattle.layout.specs.Capacities.{classOf}
-use Rattle.layout.specs.Layout.{change}
-use Rattle.home.specs.Bytes.{decode}
+use Rattle.home.specs.Layout.{change}
+use Rattle.home.specs.Bytes.{stepOf, decode}
 use Rattle.home.specs.Sound.{sound, pagesOf, listOf}
 use Rattle.home.specs.declared.lookup.TagBlock.the-variants.{Known}
 use Rattle.home.specs.Lookup.{blockOf}
@@ -40,7 +40,7 @@ pub record Ranked (h : List ℕ) (t p n j : ℕ) : Type 0 where
 
 -- home's bytes once tag t's list is rs; as they were where there is no room
 abbrev pub changed : List ℕ → ℕ → List Record → List ℕ
-changed h t rs = settled (pagesOf h) h (change (8 * pagesOf h) t rs (decode h))
+changed h t rs = settled (stepOf h) (pagesOf h) h (change (stepOf h) (8 * pagesOf h) t rs (decode h))
 
 -- a list without its j-th record
 abbrev pub without : ℕ → List Record → List Record
@@ -53,5 +53,5 @@ pub record Moving (h : List ℕ) (t p n : ℕ) (bs : List ℕ) : Type 0 where
   pub proper : Proper list
   pub bytes : bs ≡ recordBytes list
   pub some : 0 < length list
-  pub class : classOf (length list) ≢ classOf n
-  pub room : isSome (change (8 * pagesOf h) t list (decode h)) ≡ true
+  pub class : classOf (stepOf h) (length list) ≢ classOf (stepOf h) n
+  pub room : isSome (change (stepOf h) (8 * pagesOf h) t list (decode h)) ≡ true

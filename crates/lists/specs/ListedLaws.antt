@@ -12,7 +12,7 @@ use Rattle.wire.specs.BytesLaws.{part-of}
 use Rattle.layout.specs.Capacities.{classOf}
 use Rattle.layout.specs.CapacitiesLaws.{cells-most}
 use Rattle.layout.specs.Zones.{Zone, blocks, hasTag, find}
-use Rattle.home.specs.Bytes.{decode, listAt}
+use Rattle.home.specs.Bytes.{stepOf, decode, listAt}
 use Rattle.home.specs.TagBlockLaws.{Entered, block-entered}
 use Rattle.home.specs.Sound.{sound, pagesOf, listOf}
 use Rattle.zones.specs.Known.{Known}
@@ -22,8 +22,8 @@ use Rattle.lists.specs.ListsLaws.{block-list}
 use Rattle.lists.specs.Listed.{Listed}
 
 -- the list of a tag's block is what is found
-known-list : (R : ℕ) (h : List ℕ) (zs : List Zone) (t c p : ℕ) (k : Known R h zs t c p) → k .found .block .list ≡ find t (blocks zs)
-known-list R h zs t c p k = sym (ap (λ (l : List Zone). find t (blocks l)) (k .found .is)
+known-list : (step R : ℕ) (h : List ℕ) (zs : List Zone) (t c p : ℕ) (k : Known step R h zs t c p) → k .found .block .list ≡ find t (blocks zs)
+known-list step R h zs t c p k = sym (ap (λ (l : List Zone). find t (blocks l)) (k .found .is)
     ∙ find-there t (k .found .block) (k .found .tag) (k .found .behind) (k .found .first) (k .found .before) (k .found .none-before) (k .found .lower) (k .found .higher) (k .found .none-lower))
 
 module _ (h : List ℕ) (t p n : ℕ) (l : Listed h t p n) where
@@ -36,16 +36,16 @@ module _ (h : List ℕ) (t p n : ℕ) (l : Listed h t p n) where
   pub listed-has : hasTag t (blocks (decode h)) ≡ true
   listed-has = slot-has h (l .sound) t (entered .entry) (entered .slot)
 
-  pub listed-known : Known (pagesOf h) h (decode h) t (classOf n) p
+  pub listed-known : Known (stepOf h) (pagesOf h) h (decode h) t (classOf (stepOf h) n) p
   listed-known = rw (entered .count, entered .cell) (slot-known h (l .sound) t (entered .entry) (entered .slot))
 
-  pub listed-lying : Lying h (classOf n) p (record { tag = t; list = list })
+  pub listed-lying : Lying (stepOf h) h (classOf (stepOf h) n) p (record { tag = t; list = list })
   unfolding listOf
   listed-lying =
-      let k : Known (pagesOf h) h (decode h) t (classOf n) p = listed-known in
-      let e : k .found .block .list ≡ list = known-list (pagesOf h) h (decode h) t (classOf n) p k in
+      let k : Known (stepOf h) (pagesOf h) h (decode h) t (classOf (stepOf h) n) p = listed-known in
+      let e : k .found .block .list ≡ list = known-list (stepOf h) (pagesOf h) h (decode h) t (classOf (stepOf h) n) p k in
       let same : k .found .block ≡ record { tag = t; list = list } = λ i. record { tag = k .found .tag i; list = e i } in
-      subst (Lying h (classOf n) p) same (known-lying (pagesOf h) h (decode h) t (classOf n) p k)
+      subst (Lying (stepOf h) h (classOf (stepOf h) n) p) same (known-lying (stepOf h) (pagesOf h) h (decode h) t (classOf (stepOf h) n) p k)
 
   pub listed-many : n ≡ length list
   listed-many = entered .count ∙ listed-lying .count
@@ -55,13 +55,13 @@ module _ (h : List ℕ) (t p n : ℕ) (l : Listed h t p n) where
   listed-some = omega (arith, listed-many, listed-lying .sits .some)
 
   pub listed-most : n ≤ 989
-  listed-most = omega (arith, listed-many, listed-lying .sits .room, cells-most (classOf n))
+  listed-most = omega (arith, listed-many, listed-lying .sits .room, cells-most (stepOf h) (classOf (stepOf h) n))
 
   pub listed-inside : listAt p + 8 * n ≤ length h
   listed-inside = omega (arith, listed-many, listed-lying .sits .room, listed-lying .inside)
 
   pub listed-records : records h (listAt p) n ≡ list
-  listed-records = ap (records h (listAt p)) listed-many ∙ block-list h p (classOf n) (record { tag = t; list = list }) (listed-lying .sits) (listed-lying .bytes) (listed-lying .inside)
+  listed-records = ap (records h (listAt p)) listed-many ∙ block-list (stepOf h) h p (classOf (stepOf h) n) (record { tag = t; list = list }) (listed-lying .sits) (listed-lying .bytes) (listed-lying .inside)
 
 -- the records of a part of home
 pub part-records : (h : List ℕ) (at n : ℕ) → at + 8 * n ≤ length h → recordsIn (take (at + 8 * n - at) (drop at h)) ≡ records h at n

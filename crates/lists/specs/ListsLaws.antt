@@ -18,7 +18,7 @@ use Rattle.records.specs.Edits.{length-encode}
 use Rattle.layout.specs.CapacitiesLaws.{cells-is}
 use Rattle.layout.specs.Capacities.{capacity, cells}
 use Rattle.layout.specs.Zones.{Block}
-use Rattle.layout.specs.Layout.{Sits}
+use Rattle.home.specs.Layout.{Sits}
 use Rattle.home.specs.Bytes.{blockBytes, cellAt, listAt}
 use Rattle.home.specs.AreaLaws.{length-block}
 use Rattle.home.specs.BytesLaws.{part-join}
@@ -184,8 +184,8 @@ amended-bytes k m rs u v =
 unfoldable header : ℕ → ℕ → List ℕ
 header t n = bytes32 t ++ (bytes16 n ++ (0 ∷ 0 ∷ []))
 
-unfoldable body : ℕ → List Record → List ℕ
-body c rs = recordBytes rs ++ replicate (8 * (capacity c - length rs)) 0
+unfoldable body : ℕ → ℕ → List Record → List ℕ
+body step c rs = recordBytes rs ++ replicate (8 * (capacity step c - length rs)) 0
 
 -- the zeros behind n records in room for k, and behind one more
 zeros-more : (k n m : ℕ) → suc n ≡ m → m ≤ k → replicate {A = ℕ} (8 * (k - n)) 0 ≡ replicate 8 0 ++ replicate (8 * (k - m)) 0
@@ -193,9 +193,9 @@ zeros-more k n m e g =
     let a : 8 * (k - n) ≡ 8 + 8 * (k - m) = omega arith in
     ap (λ (x : ℕ). replicate {A = ℕ} x 0) a ∙ sym (replicate-append-replicate 8 (8 * (k - m)) 0)
 
-block-is : (c : ℕ) (b : Block) (x : List ℕ) → blockBytes c b ++ x ≡ header (b .tag) (length (b .list)) ++ (body c (b .list) ++ x)
+block-is : (step c : ℕ) (b : Block) (x : List ℕ) → blockBytes step c b ++ x ≡ header (b .tag) (length (b .list)) ++ (body step c (b .list) ++ x)
 unfolding blockBytes header body bytes32 bytes16
-block-is c b x = refl
+block-is step c b x = refl
 
 header-count : (t n m : ℕ) (x : List ℕ) → over (header t n ++ x) 4 (bytes16 m) ≡ header t m ++ x
 unfolding header bytes32 bytes16 over
@@ -205,29 +205,29 @@ length-header : (t n : ℕ) → length (header t n) ≡ 8
 unfolding header bytes32 bytes16
 length-header t n = refl
 
-module _ (h : List ℕ) (p c : ℕ) (b : Block) (s : Sits c b) (e : part h (cellAt p) (8 * cells c) ≡ blockBytes c b) (i : cellAt p + 8 * cells c ≤ length h) where
+module _ (step : ℕ) (h : List ℕ) (p c : ℕ) (b : Block) (s : Sits step c b) (e : part h (cellAt p) (8 * cells step c) ≡ blockBytes step c b) (i : cellAt p + 8 * cells step c ≤ length h) where
   lead : List ℕ
   lead = take (cellAt p) h
 
   back : List ℕ
-  back = drop (cellAt p + 8 * cells c) h
+  back = drop (cellAt p + 8 * cells step c) h
 
-  block-there : drop (cellAt p) h ≡ blockBytes c b ++ back
+  block-there : drop (cellAt p) h ≡ blockBytes step c b ++ back
   unfolding back
-  block-there = block-starts h (record { cell = p; class = c; block = b }) e
+  block-there = block-starts step h (record { cell = p; class = c; block = b }) e
 
   -- ---- the list
 
   -- what lies behind the records
   rest : List ℕ
-  rest = replicate (8 * (capacity c - length (b .list))) 0 ++ back
+  rest = replicate (8 * (capacity step c - length (b .list))) 0 ++ back
 
   list-there : drop (listAt p) h ≡ recordBytes (b .list) ++ rest
   unfolding rest blockBytes bytes32 bytes16
-  list-there = sym (drop-drop 8 (cellAt p) h) ∙ ap (drop 8) block-there ∙ append-assoc (recordBytes (b .list)) (replicate (8 * (capacity c - length (b .list))) 0) back
+  list-there = sym (drop-drop 8 (cellAt p) h) ∙ ap (drop 8) block-there ∙ append-assoc (recordBytes (b .list)) (replicate (8 * (capacity step c - length (b .list))) 0) back
 
   pub block-list : records h (listAt p) (length (b .list)) ≡ b .list
-  block-list = block-records h p c b back block-there s
+  block-list = block-records step h p c b back block-there s
 
   pub block-list-bytes : part h (listAt p) (8 * length (b .list)) ≡ recordBytes (b .list)
   block-list-bytes = part-first h (recordBytes (b .list)) rest (listAt p) (8 * length (b .list)) list-there (length-encode (b .list))
@@ -276,32 +276,32 @@ module _ (h : List ℕ) (p c : ℕ) (b : Block) (s : Sits c b) (e : part h (cell
   unfolding lead
   length-lead = length-take-le (cellAt p) h (omega arith)
 
-  whole : h ≡ lead ++ (blockBytes c b ++ back)
+  whole : h ≡ lead ++ (blockBytes step c b ++ back)
   unfolding lead
   whole = sym (take-append-drop (cellAt p) h) ∙ ap (λ (x : List ℕ). take (cellAt p) h ++ x) block-there
 
   -- bytes written over the records' first ones
-  list-over : (l r bs : List ℕ) → body c (b .list) ≡ l ++ r → length l ≡ length bs
+  list-over : (l r bs : List ℕ) → body step c (b .list) ≡ l ++ r → length l ≡ length bs
       → over h (listAt p) bs ≡ lead ++ (header (b .tag) (length (b .list)) ++ (bs ++ (r ++ back)))
   list-over l r bs a g =
       let hd : List ℕ = header (b .tag) (length (b .list)) in
       ap (λ (x : List ℕ). over x (listAt p) bs)
-      (whole ∙ ap (λ (x : List ℕ). lead ++ x) (block-is c b back ∙ ap (λ (x : List ℕ). hd ++ x) (ap (λ (x : List ℕ). x ++ back) a ∙ append-assoc l r back)))
+      (whole ∙ ap (λ (x : List ℕ). lead ++ x) (block-is step c b back ∙ ap (λ (x : List ℕ). hd ++ x) (ap (λ (x : List ℕ). x ++ back) a ∙ append-assoc l r back)))
       ∙ over-behind lead (hd ++ (l ++ (r ++ back))) (cellAt p) 8 bs length-lead
       ∙ ap (λ (x : List ℕ). lead ++ x) (over-seam hd l (r ++ back) bs 8 (length-header (b .tag) (length (b .list))) g)
 
-  block-over : (xs : List Record) → length xs ≤ capacity c → over h (cellAt p) (blockBytes c (holding b xs)) ≡ lead ++ (header (b .tag) (length xs) ++ (body c xs ++ back))
+  block-over : (xs : List Record) → length xs ≤ capacity step c → over h (cellAt p) (blockBytes step c (holding b xs)) ≡ lead ++ (header (b .tag) (length xs) ++ (body step c xs ++ back))
   block-over xs g =
-      let v : List ℕ = blockBytes c (holding b xs) in
+      let v : List ℕ = blockBytes step c (holding b xs) in
       ap (λ (x : List ℕ). over x (cellAt p) v) whole
-      ∙ over-seam lead (blockBytes c b) back v (cellAt p) length-lead (length-block c b (omega (arith, s .room, cells-is c)) ∙ sym (length-block c (holding b xs) g))
-      ∙ ap (λ (x : List ℕ). lead ++ x) (block-is c (holding b xs) back)
+      ∙ over-seam lead (blockBytes step c b) back v (cellAt p) length-lead (length-block step c b (omega (arith, s .room, cells-is step c)) ∙ sym (length-block step c (holding b xs) g))
+      ∙ ap (λ (x : List ℕ). lead ++ x) (block-is step c (holding b xs) back)
 
-  joined : (xs : List Record) (r bs : List ℕ) → bs ++ r ≡ body c xs → bs ++ (r ++ back) ≡ body c xs ++ back
+  joined : (xs : List Record) (r bs : List ℕ) → bs ++ r ≡ body step c xs → bs ++ (r ++ back) ≡ body step c xs ++ back
   joined xs r bs d = sym (append-assoc bs r back) ∙ ap (λ (x : List ℕ). x ++ back) d
 
-  relisted-is : (xs : List Record) (l r bs : List ℕ) → body c (b .list) ≡ l ++ r → length l ≡ length bs → bs ++ r ≡ body c xs → length xs ≤ capacity c
-      → relisted h p (length xs) bs ≡ over h (cellAt p) (blockBytes c (holding b xs))
+  relisted-is : (xs : List Record) (l r bs : List ℕ) → body step c (b .list) ≡ l ++ r → length l ≡ length bs → bs ++ r ≡ body step c xs → length xs ≤ capacity step c
+      → relisted h p (length xs) bs ≡ over h (cellAt p) (blockBytes step c (holding b xs))
   unfolding relisted
   relisted-is xs l r bs a g d q =
       let t : ℕ = b .tag in
@@ -310,43 +310,43 @@ module _ (h : List ℕ) (p c : ℕ) (b : Block) (s : Sits c b) (e : part h (cell
       ∙ ap (λ (x : List ℕ). lead ++ x) (header-count t (length (b .list)) (length xs) (bs ++ (r ++ back)) ∙ ap (λ (x : List ℕ). header t (length xs) ++ x) (joined xs r bs d))
       ∙ sym (block-over xs q)
 
-  pub insert-here-is : (r : Record) → suc (length (b .list)) ≤ capacity c
-      → insertedHere h p (length (b .list)) (rank (key r) (b .list)) r ≡ over h (cellAt p) (blockBytes c (holding b (insert r (b .list))))
+  pub insert-here-is : (r : Record) → suc (length (b .list)) ≤ capacity step c
+      → insertedHere h p (length (b .list)) (rank (key r) (b .list)) r ≡ over h (cellAt p) (blockBytes step c (holding b (insert r (b .list))))
   unfolding insertedHere body
   insert-here-is r g =
       let xs : List Record = insert r (b .list) in
       let bs : List ℕ = recordBytes (b .list) in
-      let z : List ℕ = replicate (8 * (capacity c - suc (length (b .list)))) 0 in
+      let z : List ℕ = replicate (8 * (capacity step c - suc (length (b .list)))) 0 in
       let m : length (b .list) + 1 ≡ length xs = omega (arith, length-insert r (b .list)) in
       ap₂ (λ (k : ℕ) (l : List ℕ). relisted h p k l) m (insert-aside-is r)
       ∙ relisted-is xs (bs ++ replicate 8 0) z (recordBytes xs)
-      (ap (λ (l : List ℕ). bs ++ l) (zeros-more (capacity c) (length (b .list)) (suc (length (b .list))) refl g) ∙ sym (append-assoc bs (replicate 8 0) z))
+      (ap (λ (l : List ℕ). bs ++ l) (zeros-more (capacity step c) (length (b .list)) (suc (length (b .list))) refl g) ∙ sym (append-assoc bs (replicate 8 0) z))
       (omega (arith, length-append bs (replicate 8 0), length-encode (b .list), length-encode xs))
-      (ap (λ (k : ℕ). recordBytes xs ++ replicate (8 * (capacity c - k)) 0) (sym (length-insert r (b .list))))
+      (ap (λ (k : ℕ). recordBytes xs ++ replicate (8 * (capacity step c - k)) 0) (sym (length-insert r (b .list))))
       (omega arith)
 
   pub remove-here-is : (k : ℕ) → held (look k (b .list)) ≡ true
-      → removedHere h p (length (b .list)) (rank k (b .list)) ≡ over h (cellAt p) (blockBytes c (holding b (remove k (b .list))))
+      → removedHere h p (length (b .list)) (rank k (b .list)) ≡ over h (cellAt p) (blockBytes step c (holding b (remove k (b .list))))
   unfolding removedHere body
   remove-here-is k v =
       let xs : List Record = remove k (b .list) in
       let bs : List ℕ = recordBytes xs in
-      let z : List ℕ = replicate (8 * (capacity c - length (b .list))) 0 in
+      let z : List ℕ = replicate (8 * (capacity step c - length (b .list))) 0 in
       let m : suc (length xs) ≡ length (b .list) = length-remove k (b .list) (s .rising) v in
       ap₂ (λ (k : ℕ) (l : List ℕ). relisted h p k (l ++ replicate 8 0)) (omega arith) (remove-aside-is k v)
       ∙ relisted-is xs (recordBytes (b .list)) z (bs ++ replicate 8 0) refl
       (omega (arith, length-append bs (replicate 8 0), length-encode (b .list), length-encode xs))
-      (append-assoc bs (replicate 8 0) z ∙ ap (λ (l : List ℕ). bs ++ l) (sym (zeros-more (capacity c) (length xs) (length (b .list)) m (omega (arith, s .room, cells-is c)))))
-      (omega (arith, s .room, cells-is c))
+      (append-assoc bs (replicate 8 0) z ∙ ap (λ (l : List ℕ). bs ++ l) (sym (zeros-more (capacity step c) (length xs) (length (b .list)) m (omega (arith, s .room, cells-is step c)))))
+      (omega (arith, s .room, cells-is step c))
 
   pub set-here-is : (k m : ℕ) → held (look k (b .list)) ≡ true
-      → setHere h p (length (b .list)) (rank k (b .list)) m ≡ over h (cellAt p) (blockBytes c (holding b (amend k m (b .list))))
+      → setHere h p (length (b .list)) (rank k (b .list)) m ≡ over h (cellAt p) (blockBytes step c (holding b (amend k m (b .list))))
   unfolding setHere body
   set-here-is k m v =
       let xs : List Record = amend k m (b .list) in
-      let z : List ℕ = replicate (8 * (capacity c - length (b .list))) 0 in
+      let z : List ℕ = replicate (8 * (capacity step c - length (b .list))) 0 in
       let q : length xs ≡ length (b .list) = length-amend k m (b .list) in
       ap (λ (l : List ℕ). over h (listAt p) l) (ap (λ (l : List ℕ). amended l (rank k (b .list)) m) block-list-bytes ∙ amended-bytes k m (b .list) (s .rising) v)
       ∙ list-over (recordBytes (b .list)) z (recordBytes xs) refl (omega (arith, length-encode (b .list), length-encode xs))
-      ∙ ap₂ (λ (n : ℕ) (l : List ℕ). lead ++ (header (b .tag) n ++ l)) (sym q) (joined xs z (recordBytes xs) (ap (λ (n : ℕ). recordBytes xs ++ replicate (8 * (capacity c - n)) 0) (sym q)))
-      ∙ sym (block-over xs (omega (arith, s .room, cells-is c)))
+      ∙ ap₂ (λ (n : ℕ) (l : List ℕ). lead ++ (header (b .tag) n ++ l)) (sym q) (joined xs z (recordBytes xs) (ap (λ (n : ℕ). recordBytes xs ++ replicate (8 * (capacity step c - n)) 0) (sym q)))
+      ∙ sym (block-over xs (omega (arith, s .room, cells-is step c)))

@@ -13,12 +13,12 @@ use Rattle.records.specs.Records.{key, held, rank, insert, remove, amend, encod
 use Rattle.records.specs.Order.{remove-at, rank-length}
 use Rattle.layout.specs.Cases.{some-is}
 use Rattle.layout.specs.Capacities.{cells, capacity, classOf}
-use Rattle.layout.specs.CapacitiesLaws.{cells-is, class-holds}
+use Rattle.layout.specs.CapacitiesLaws.{cells-is, class-holds, rising as rises}
 use Rattle.layout.specs.Zones.{Block, takeOut}
-use Rattle.layout.specs.Layout.{change}
+use Rattle.home.specs.Layout.{change}
 use Rattle.layout.specs.EditsLaws.{length-insert, length-amend, remove-listed, amend-listed, insert-listed, shorter}
 use Rattle.wire.specs.Bytes.{over, isSome}
-use Rattle.home.specs.Bytes.{encode, decode, blockBytes, cellAt, listAt}
+use Rattle.home.specs.Bytes.{stepOf, encode, decode, blockBytes, cellAt, listAt}
 use Rattle.home.specs.Sound.{pagesOf, listOf}
 use Rattle.layout.specs.Valid.{Proper}
 use Rattle.home.specs.SoundLaws.{sound-valid}
@@ -49,7 +49,7 @@ module _ (h : List ℕ) (t p n j : ℕ) (k : Ranked h t p n j) where
   abbrev b : Block
   b = record { tag = t; list = rs }
 
-  lies : Lying h (classOf n) p b
+  lies : Lying (stepOf h) h (classOf (stepOf h) n) p b
   lies = listed-lying h t p n (k .listed)
 
   many : n ≡ length rs
@@ -68,36 +68,36 @@ module _ (h : List ℕ) (t p n j : ℕ) (k : Ranked h t p n j) where
   left-many = ap (λ (l : List Record). suc (length l)) (sym without-is) ∙ length-remove (k .key) rs (proper h t p n (k .listed) .rising) (k .held) ∙ sym many
 
   -- the last record: its block goes
-  pub out-last : n ≡ 1 → encode (pagesOf h) (takeOut cells t 0 0 (decode h)) ≡ changed h t (without j rs)
+  pub out-last : n ≡ 1 → encode (stepOf h) (pagesOf h) (takeOut (cells (stepOf h)) t 0 0 (decode h)) ≡ changed h t (without j rs)
   out-last e = changed-none h t p n (k .listed) ∙ ap (changed h t) (sym (no-records (without j rs) (omega (arith, left-many))))
 
   -- the class stays
-  pub out-here : 1 < n → classOf (n - 1) ≡ classOf n → removedHere h p n j ≡ changed h t (without j rs)
+  pub out-here : 1 < n → classOf (stepOf h) (n - 1) ≡ classOf (stepOf h) n → removedHere h p n j ≡ changed h t (without j rs)
   out-here g e =
       let f : length (without j rs) ≡ n - 1 = omega (arith, left-many) in
       ap₂ (removedHere h p) many (sym (k .rank))
-      ∙ remove-here-is h p (classOf n) b (lies .sits) (lies .bytes) (lies .inside) (k .key) (k .held)
-      ∙ ap (λ (l : List Record). over h (cellAt p) (blockBytes (classOf n) (record { tag = t; list = l }))) without-is
-      ∙ changed-here h t p n (k .listed) (without j rs) left-proper (omega (arith, left-many)) (ap classOf f ∙ e)
+      ∙ remove-here-is (stepOf h) h p (classOf (stepOf h) n) b (lies .sits) (lies .bytes) (lies .inside) (k .key) (k .held)
+      ∙ ap (λ (l : List Record). over h (cellAt p) (blockBytes (stepOf h) (classOf (stepOf h) n) (record { tag = t; list = l }))) without-is
+      ∙ changed-here h t p n (k .listed) (without j rs) left-proper (omega (arith, left-many)) (ap (classOf (stepOf h)) f ∙ e)
 
   -- another class
   pub shrunk-is : shrunk h p n j ≡ recordBytes (without j rs)
-  shrunk-is = ap₂ (shrunk h p) many (sym (k .rank)) ∙ remove-aside-is h p (classOf n) b (lies .sits) (lies .bytes) (lies .inside) (k .key) (k .held) ∙ ap recordBytes without-is
+  shrunk-is = ap₂ (shrunk h p) many (sym (k .rank)) ∙ remove-aside-is (stepOf h) h p (classOf (stepOf h) n) b (lies .sits) (lies .bytes) (lies .inside) (k .key) (k .held) ∙ ap recordBytes without-is
 
-  pub out-room : isSome (change (8 * pagesOf h) t (without j rs) (decode h)) ≡ true
+  pub out-room : isSome (change (stepOf h) (8 * pagesOf h) t (without j rs) (decode h)) ≡ true
   unfolding listOf
-  out-room = some-is (change (8 * pagesOf h) t (without j rs) (decode h))
-      (shorter (8 * pagesOf h) t (decode h) (sound-valid h (k .listed .sound)) (lies .sits .tag) (without j rs) (listed-has h t p n (k .listed)) (omega (arith, left-many, many)))
+  out-room = some-is (change (stepOf h) (8 * pagesOf h) t (without j rs) (decode h))
+      (shorter (cells (stepOf h)) (classOf (stepOf h)) (rises (stepOf h)) (8 * pagesOf h) t (decode h) (sound-valid h (k .listed .sound)) (lies .sits .tag) (without j rs) (listed-has h t p n (k .listed)) (omega (arith, left-many, many)))
 
   module _ (bs : List ℕ) (e : bs ≡ shrunk h p n j) where
-    pub out-moving : 1 < n → classOf (n - 1) ≢ classOf n → Moving h t p n bs
+    pub out-moving : 1 < n → classOf (stepOf h) (n - 1) ≢ classOf (stepOf h) n → Moving h t p n bs
     out-moving g d = let f : length (without j rs) ≡ n - 1 = omega (arith, left-many) in record {
       listed = k .listed;
       list = without j rs;
       proper = left-proper;
       bytes = e ∙ shrunk-is;
       some = omega arith;
-      class = λ u. d (ap classOf (sym f) ∙ u);
+      class = λ u. d (ap (classOf (stepOf h)) (sym f) ∙ u);
       room = out-room;
     }
 
@@ -113,7 +113,7 @@ module _ (h : List ℕ) (t p n j : ℕ) (r : Record) (k : Missing h t p n j r) w
   abbrev new : List Record
   new = insert r old
 
-  here : Lying h (classOf n) p (record { tag = t; list = old })
+  here : Lying (stepOf h) h (classOf (stepOf h) n) p (record { tag = t; list = old })
   here = listed-lying h t p n (k .listed)
 
   count : n ≡ length old
@@ -130,31 +130,31 @@ module _ (h : List ℕ) (t p n j : ℕ) (r : Record) (k : Missing h t p n j r) w
     new-proper = insert-listed r old (k .fits) (k .held) (omega (arith, count)) (proper h t p n (k .listed))
 
     -- the class stays: there is a free cell
-    pub in-free : classOf (n + 1) ≡ classOf n → suc n ≤ capacity (classOf n)
-    in-free e = omega (arith, class-holds (n + 1) (omega (arith, short)), ap cells e, cells-is (classOf n))
+    pub in-free : classOf (stepOf h) (n + 1) ≡ classOf (stepOf h) n → suc n ≤ capacity (stepOf h) (classOf (stepOf h) n)
+    in-free e = omega (arith, class-holds (stepOf h) (n + 1) (omega (arith, short)), ap (cells (stepOf h)) e, cells-is (stepOf h) (classOf (stepOf h) n))
 
-    pub in-inside : classOf (n + 1) ≡ classOf n → listAt p + 8 * (n + 1) ≤ length h
-    in-inside e = omega (arith, in-free e, cells-is (classOf n), here .inside)
+    pub in-inside : classOf (stepOf h) (n + 1) ≡ classOf (stepOf h) n → listAt p + 8 * (n + 1) ≤ length h
+    in-inside e = omega (arith, in-free e, cells-is (stepOf h) (classOf (stepOf h) n), here .inside)
 
-    pub in-here : classOf (n + 1) ≡ classOf n → insertedHere h p n j r ≡ changed h t new
+    pub in-here : classOf (stepOf h) (n + 1) ≡ classOf (stepOf h) n → insertedHere h p n j r ≡ changed h t new
     in-here e =
         ap₂ (λ (x y : ℕ). insertedHere h p x y r) count (sym (k .rank))
-        ∙ insert-here-is h p (classOf n) (record { tag = t; list = old }) (here .sits) (here .bytes) (here .inside) r (omega (arith, in-free e, count))
-        ∙ changed-here h t p n (k .listed) new new-proper (omega (arith, new-many)) (ap classOf new-many ∙ e)
+        ∙ insert-here-is (stepOf h) h p (classOf (stepOf h) n) (record { tag = t; list = old }) (here .sits) (here .bytes) (here .inside) r (omega (arith, in-free e, count))
+        ∙ changed-here h t p n (k .listed) new new-proper (omega (arith, new-many)) (ap (classOf (stepOf h)) new-many ∙ e)
 
     -- another class
     grown-is : grown h p n j r ≡ recordBytes new
-    grown-is = ap₂ (λ (x y : ℕ). grown h p x y r) count (sym (k .rank)) ∙ insert-aside-is h p (classOf n) (record { tag = t; list = old }) (here .sits) (here .bytes) (here .inside) r
+    grown-is = ap₂ (λ (x y : ℕ). grown h p x y r) count (sym (k .rank)) ∙ insert-aside-is (stepOf h) h p (classOf (stepOf h) n) (record { tag = t; list = old }) (here .sits) (here .bytes) (here .inside) r
 
     module _ (bs : List ℕ) (e : bs ≡ grown h p n j r) where
-      pub in-moving : classOf (n + 1) ≢ classOf n → isSome (change (8 * pagesOf h) t new (decode h)) ≡ true → Moving h t p n bs
+      pub in-moving : classOf (stepOf h) (n + 1) ≢ classOf (stepOf h) n → isSome (change (stepOf h) (8 * pagesOf h) t new (decode h)) ≡ true → Moving h t p n bs
       in-moving d i = record {
         listed = k .listed;
         list = new;
         proper = new-proper;
         bytes = e ∙ grown-is;
         some = omega (arith, new-many);
-        class = λ u. d (ap classOf (sym new-many) ∙ u);
+        class = λ u. d (ap (classOf (stepOf h)) (sym new-many) ∙ u);
         room = i;
       }
 
@@ -166,9 +166,9 @@ module _ (h : List ℕ) (t p n j : ℕ) (r : Record) (k : Missing h t p n j r) w
 pub set-changed : (h : List ℕ) (t p n j m : ℕ) (k : Ranked h t p n j) → m < 256 → setHere h p n j m ≡ changed h t (amend (k .key) m (listOf h t))
 set-changed h t p n j m k g =
     let rs : List Record = listOf h t in
-    let s : Lying h (classOf n) p (record { tag = t; list = rs }) = listed-lying h t p n (k .listed) in
+    let s : Lying (stepOf h) h (classOf (stepOf h) n) p (record { tag = t; list = rs }) = listed-lying h t p n (k .listed) in
     let c : n ≡ length rs = listed-many h t p n (k .listed) in
     let l : length (amend (k .key) m rs) ≡ n = length-amend (k .key) m rs ∙ sym c in
     ap₂ (λ (x y : ℕ). setHere h p x y m) c (sym (k .rank))
-    ∙ set-here-is h p (classOf n) (record { tag = t; list = rs }) (s .sits) (s .bytes) (s .inside) (k .key) m (k .held)
-    ∙ changed-here h t p n (k .listed) (amend (k .key) m rs) (amend-listed (k .key) m rs g (proper h t p n (k .listed))) (omega (arith, l, listed-some h t p n (k .listed))) (ap classOf l)
+    ∙ set-here-is (stepOf h) h p (classOf (stepOf h) n) (record { tag = t; list = rs }) (s .sits) (s .bytes) (s .inside) (k .key) m (k .held)
+    ∙ changed-here h t p n (k .listed) (amend (k .key) m rs) (amend-listed (k .key) m rs g (proper h t p n (k .listed))) (omega (arith, l, listed-some h t p n (k .listed))) (ap (classOf (stepOf h)) l)

@@ -2,6 +2,7 @@
 use crate::here::insert_aside;
 use crate::here::remove_aside;
 use crate::here::remove_here;
+use home::lookup::step_of;
 use layout::classes::LONGEST_LIST;
 use layout::classes::class_of;
 use layout::classes::under;
@@ -15,9 +16,9 @@ ghost use Prim.Native.Nat.{_+_, _-_, _*_, _≤_, _<_};
 ghost use lib.ListN.{length};
 ghost use Rattle.records.specs.Records.{insert as inserted, decode as recordsIn};
 ghost use Rattle.layout.specs.Capacities.{classOf};
-ghost use Rattle.home.specs.Bytes.{decode};
+ghost use Rattle.home.specs.Bytes.{stepOf, decode};
 ghost use Rattle.home.specs.Sound.{pagesOf, listOf};
-ghost use Rattle.layout.specs.Layout.{change};
+ghost use Rattle.home.specs.Layout.{change};
 ghost use Rattle.wire.specs.Bytes.{isSome};
 ghost use Rattle.lists.specs.Listed.{Ranked, Missing, Moving, changed, without};
 
@@ -26,7 +27,8 @@ fn move_list(home: &mut [u8], tag: u32, p: usize, n: usize, list: &[u8])
     requires { ⌜ Moving (now home) tag p n (now list) ⌝ }
     ensures { λ _. ⌜ now (home .exit) ≡ changed (now (home .entry)) tag (recordsIn (now (list .entry))) ⌝ }
 {
-    take_out(home, tag, class_of(n), p);
+    let step = step_of(home);
+    take_out(home, step, tag, class_of(step, n), p);
     settle(home, tag, list);
 }
 
@@ -40,8 +42,8 @@ pub fn insert_moving(
     r: Record,
     aside: &mut [u8],
 )
-    requires { ⌜ Missing (now home) tag p n j r × (n < 989) × (classOf (n + 1) ≢ classOf n) × (8 * (n + 1) ≤ length (now aside)) ⌝ }
-    requires { ⌜ isSome (change (8 * pagesOf (now home)) tag (inserted r (listOf (now home) tag)) (decode (now home))) ≡ true ⌝ }
+    requires { ⌜ Missing (now home) tag p n j r × (n < 989) × (classOf (stepOf (now home)) (n + 1) ≢ classOf (stepOf (now home)) n) × (8 * (n + 1) ≤ length (now aside)) ⌝ }
+    requires { ⌜ isSome (change (stepOf (now home)) (8 * pagesOf (now home)) tag (inserted r (listOf (now home) tag)) (decode (now home))) ≡ true ⌝ }
     ensures { λ _. ⌜ now (home .exit) ≡ changed (now (home .entry)) tag (inserted r (listOf (now (home .entry)) tag)) ⌝ }
 {
     let end = 8 * (n + 1);
@@ -51,7 +53,7 @@ pub fn insert_moving(
 
 // The list without its record of rank j goes to a block of another class. There is always room.
 fn remove_moving(home: &mut [u8], tag: u32, p: usize, n: usize, j: usize, aside: &mut [u8])
-    requires { ⌜ Ranked (now home) tag p n j × (1 < n) × (classOf (n - 1) ≢ classOf n) × (8 * (n - 1) ≤ length (now aside)) ⌝ }
+    requires { ⌜ Ranked (now home) tag p n j × (1 < n) × (classOf (stepOf (now home)) (n - 1) ≢ classOf (stepOf (now home)) n) × (8 * (n - 1) ≤ length (now aside)) ⌝ }
     ensures { λ _. ⌜ now (home .exit) ≡ changed (now (home .entry)) tag (without j (listOf (now (home .entry)) tag)) ⌝ }
 {
     let end = 8 * (n - 1);
@@ -64,10 +66,11 @@ pub fn remove_record(home: &mut [u8], tag: u32, p: usize, n: usize, j: usize)
     requires { ⌜ Ranked (now home) tag p n j ⌝ }
     ensures { λ _. ⌜ now (home .exit) ≡ changed (now (home .entry)) tag (without j (listOf (now (home .entry)) tag)) ⌝ }
 {
-    let c = class_of(n);
+    let step = step_of(home);
+    let c = class_of(step, n);
     if n == 1 {
-        take_out(home, tag, c, p);
-    } else if under(c) < n - 1 {
+        take_out(home, step, tag, c, p);
+    } else if under(step, c) < n - 1 {
         remove_here(home, p, n, j);
     } else {
         let mut aside = [0; LONGEST_LIST];

@@ -1,15 +1,16 @@
 -- What each return of format, commit and recover answers and leaves.
 use mathlib.Core.Path.{_≡_, refl, sym, ap, _∙_}
-use mathlib.Core.Bool.{Bool, true, false}
+use mathlib.Core.Bool.{Bool, true, false, _&&_}
 use Prim.Native.Nat.{ℕ, _+_, _-_, _*_, _≤_, _<_}
 use native.Mathlib.Omega.{arith}
 use mathlib.Core.List.{List, [], _∷_, _++_}
-use lib.ListN.{length, take, drop, replicate, length-take, length-append, length-drop, length-replicate}
+use lib.ListN.{length, take, drop, length-take, length-append, length-drop}
 use lib.Seq.{take-nil}
-use lib.Dec.{leb}
-use borrow.Author.Tests.{le-leb, lt-leb, lt-ltb, le-ltb, eq-eqb, ne-eqb}
-use Rattle.wire.specs.Bytes.{pick, bytes16}
-use Rattle.wire.specs.Cases.{and-false}
+use lib.Dec.{leb, ltb, eqb}
+use borrow.Author.Tests.{le-leb, lt-leb, lt-ltb, ltb-true, le-ltb, eq-eqb, eqb-true, ne-eqb}
+use Rattle.wire.specs.BytesLaws.{length-zeros-but}
+use Rattle.wire.specs.Bytes.{zerosBut, pick, bytes16}
+use Rattle.wire.specs.Cases.{and-false, both}
 use Rattle.wire.specs.Rules.{first}
 use Rattle.wire.specs.All.{All, all-map}
 use Rattle.redo.specs.Store.{Store, run}
@@ -23,7 +24,7 @@ use Rattle.redo.specs.StoresLaws.{length-recover}
 use Rattle.redo.specs.Stage.{Stage, Makes, stage-more}
 use Rattle.redo.specs.Stages.{commit-needs}
 use Rattle.log.specs.declared.Outcome.the-variants.{Done, Cut, Refused}
-use Rattle.log.specs.Calls.{Plan, refuse, store, answer, after, formatRules, formatPlan, logOf, logOk, recoverRules, recoverPlan, changedPages, commitRules, commitPlan, anyBytes}
+use Rattle.log.specs.Calls.{Plan, refuse, store, answer, after, formattable, formatRules, formatPlan, logOf, logOk, recoverRules, recoverPlan, changedPages, commitRules, commitPlan, anyBytes}
 
 -- ---- any call
 
@@ -137,44 +138,66 @@ pub length-head : (L R : ℕ) → length (headPage L R) ≡ 64
 unfolding headPage letters bytes16
 length-head L R = refl
 
-pub length-empty : (L R : ℕ) → length (emptyImage L R) ≡ imageLength L R
+pub length-empty : (L R p v : ℕ) → p < 64 * (26 + R) → length (emptyImage L R p v) ≡ imageLength L R
 unfolding emptyImage
-length-empty L R = length-append (headPage L R) (replicate (imageLength L R - 64) 0) ∙ rw (length-head, length-replicate) (omega arith)
+length-empty L R p v g = length-append (headPage L R) (zerosBut (66 * L + p) v (imageLength L R - 64)) ∙ rw length-head (omega (arith, length-zeros-but (66 * L + p) v (imageLength L R - 64) (omega arith)))
 
-pub length-format : (L R : ℕ) → length (formatStores L R) ≡ imageLength L R + 1
+pub length-format : (L R p v : ℕ) → p < 64 * (26 + R) → length (formatStores L R p v) ≡ imageLength L R + 1
 unfolding formatStores run letters
-length-format L R =
-    let rest : length (run 1 (drop 1 (emptyImage L R))) ≡ imageLength L R - 1 = rw (length-run, length-drop, length-empty) in
-    omega (arith, length-append (run 1 (drop 1 (emptyImage L R))) (run 0 (67 ∷ [])))
+length-format L R p v g =
+    let rest : length (run 1 (drop 1 (emptyImage L R p v))) ≡ imageLength L R - 1 = rw (length-run, length-drop, length-empty L R p v g) in
+    omega (arith, length-append (run 1 (drop 1 (emptyImage L R p v))) (run 0 (67 ∷ [])))
 
 -- all bytes but the first: those of the head page, and zeros
-format-runs : (L R : ℕ) → run 1 (drop 1 (emptyImage L R)) ≡ run 1 (take 63 (drop 1 (headPage L R))) ++ run 64 (replicate (imageLength L R - 64) 0)
+format-runs : (L R p v : ℕ) → run 1 (drop 1 (emptyImage L R p v)) ≡ run 1 (take 63 (drop 1 (headPage L R))) ++ run 64 (zerosBut (66 * L + p) v (imageLength L R - 64))
 unfolding emptyImage headPage letters bytes16
-format-runs L R = run-append 1 (drop 1 (headPage L R)) (replicate (imageLength L R - 64) 0)
+format-runs L R p v = run-append 1 (drop 1 (headPage L R)) (zerosBut (66 * L + p) v (imageLength L R - 64))
 
 format-first : (L R : ℕ) → take 1 (drop 0 (headPage L R)) ≡ take 1 letters
 unfolding headPage letters
 format-first L R = refl
 
-pub format-stages : {n n₁ m₁ n₂ m₂ n₃ m₃ n₄ m₄ : ℕ} {l l₁ l₂ l₃ l₄ : List ℕ} (L R : ℕ)
+pub format-stages : {n n₁ m₁ n₂ m₂ n₃ m₃ n₄ m₄ : ℕ} {l l₁ l₂ l₃ l₄ : List ℕ} (L R p v : ℕ) → p < 64 * (26 + R)
     → Stage n 0 (run 0 (0 ∷ [])) l n₁ m₁ l₁
     → Stage n₁ m₁ (run 1 (take 63 (drop 1 (headPage L R)))) l₁ n₂ m₂ l₂
-    → Stage n₂ m₂ (run 64 (replicate (imageLength L R - 64) 0)) l₂ n₃ m₃ l₃
+    → Stage n₂ m₂ (run 64 (zerosBut (66 * L + p) v (imageLength L R - 64))) l₂ n₃ m₃ l₃
     → Stage n₃ m₃ (run 0 (take 1 (drop 0 (headPage L R)))) l₃ n₄ m₄ l₄
-    → (pick (leb (imageLength L R + 1) n) (Done m₄) (Cut m₄) ≡ answer (store (formatStores L R)) n) × (l₄ ≡ after (store (formatStores L R)) n l)
+    → (pick (leb (imageLength L R + 1) n) (Done m₄) (Cut m₄) ≡ answer (store (formatStores L R p v)) n) × (l₄ ≡ after (store (formatStores L R p v)) n l)
 unfolding formatStores
-format-stages {n} {n₄ = n₄} {m₄ = m₄} {l} {l₄ = l₄} L R a b c d =
-    let all : Stage n 0 (formatStores L R) l n₄ m₄ l₄ = stage-more a (stage-more (rw (← format-runs L R) at (stage-more b c)) (rw (format-first L R) at d)) in
-    stage-answer (imageLength L R + 1) (length-format L R) all
+format-stages {n} {n₄ = n₄} {m₄ = m₄} {l} {l₄ = l₄} L R p v g a b c d =
+    let all : Stage n 0 (formatStores L R p v) l n₄ m₄ l₄ = stage-more a (stage-more (rw (← format-runs L R p v) at (stage-more b c)) (rw (format-first L R) at d)) in
+    stage-answer (imageLength L R + 1) (length-format L R p v g) all
 
-pub format-misfit : (l : List ℕ) (L R : ℕ) → inRange L R ≡ true → (length l ≡ imageLength L R → ⊥) → formatPlan l L R ≡ refuse 14
+pub format-unfit : (l : List ℕ) (L R p v : ℕ) → formattable l L R p ≡ false → formatPlan l L R p v ≡ refuse 14
 unfolding formatPlan formatRules first
-format-misfit l L R e f = rw (e, ne-eqb (length l) (imageLength L R) f)
+format-unfit l L R p v e = rw e
 
-pub format-sizes : (l : List ℕ) (L R : ℕ) → inRange L R ≡ false → formatPlan l L R ≡ refuse 14
+pub format-fits : (l : List ℕ) (L R p v : ℕ) → formattable l L R p ≡ true → formatPlan l L R p v ≡ store (formatStores L R p v)
 unfolding formatPlan formatRules first
-format-sizes l L R e = rw e
+format-fits l L R p v e = rw e
 
-pub format-fits : (l : List ℕ) (L R : ℕ) → inRange L R ≡ true → length l ≡ imageLength L R → formatPlan l L R ≡ store (formatStores L R)
-unfolding formatPlan formatRules first
-format-fits l L R e f = rw (e, eq-eqb (length l) (imageLength L R) f)
+-- what fits
+pub record Formattable (l : List ℕ) (L R p : ℕ) : Type 0 where
+  pub sizes : inRange L R ≡ true
+  pub long : length l ≡ imageLength L R
+  pub inside : p < 64 * (26 + R)
+
+pub formattable-says : (l : List ℕ) (L R p : ℕ) → formattable l L R p ≡ true → Formattable l L R p
+unfolding formattable
+formattable-says l L R p e =
+    let a = both (inRange L R) (eqb (length l) (imageLength L R) && ltb p (64 * (26 + R))) e in
+    let b = both (eqb (length l) (imageLength L R)) (ltb p (64 * (26 + R))) (a .1) in
+    record { sizes = a .0; long = eqb-true (length l) (imageLength L R) (b .0); inside = ltb-true p (64 * (26 + R)) (b .1) }
+
+pub formattable-when : (l : List ℕ) (L R p : ℕ) → Formattable l L R p → formattable l L R p ≡ true
+unfolding formattable
+formattable-when l L R p f = rw (f .sizes, eq-eqb (length l) (imageLength L R) (f .long), lt-ltb p (64 * (26 + R)) (f .inside))
+
+-- tested in two steps
+pub formattable-none : (l : List ℕ) (L R p : ℕ) → inRange L R ≡ false → false ≡ formattable l L R p
+unfolding formattable
+formattable-none l L R p e = rw e
+
+pub formattable-rest : (l : List ℕ) (L R p n m : ℕ) → inRange L R ≡ true → n ≡ imageLength L R → m ≡ 64 * (26 + R) → eqb (length l) n && ltb p m ≡ formattable l L R p
+unfolding formattable
+formattable-rest l L R p n m e a b = rw (e, a, b)

@@ -1,5 +1,5 @@
 -- The calls that store: each is refused, or has one list of stores that an allowance cuts.
-use Prim.Native.Nat.{ℕ, _*_}
+use Prim.Native.Nat.{ℕ, _+_, _*_}
 use mathlib.Core.Bool.{Bool, true, not, _&&_}
 use mathlib.Core.List.{List, [], _∷_, _++_}
 use lib.ListN.{length, take}
@@ -42,12 +42,17 @@ imageRules accept l = headRules l ++ rule 5 (not (accept (home l))) ∷ []
 
 -- ---- format
 
--- "14: format, L or R out of range or length not matching"
-unfoldable pub formatRules : List ℕ → ℕ → ℕ → List Rule
-formatRules l L R = rule 14 (not (inRange L R && eqb (length l) (imageLength L R))) ∷ []
+-- L and R are in range, the length matches, and offset p lies in home
+unfoldable pub formattable : List ℕ → ℕ → ℕ → ℕ → Bool
+formattable l L R p = inRange L R && (eqb (length l) (imageLength L R) && ltb p (64 * (26 + R)))
 
-unfoldable pub formatPlan : List ℕ → ℕ → ℕ → Plan
-formatPlan l L R = first refuse (formatRules l L R) (store (formatStores L R))
+-- "14: format, L or R out of range or length not matching"
+unfoldable pub formatRules : List ℕ → ℕ → ℕ → ℕ → List Rule
+formatRules l L R p = rule 14 (not (formattable l L R p)) ∷ []
+
+-- home is zero but for the byte v at offset p
+unfoldable pub formatPlan : List ℕ → ℕ → ℕ → ℕ → ℕ → Plan
+formatPlan l L R p v = first refuse (formatRules l L R p) (store (formatStores L R p v))
 
 -- ---- recover
 

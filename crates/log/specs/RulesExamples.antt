@@ -8,8 +8,8 @@ use Rattle.log.specs.Calls.{formatRules, recoverRules, commitRules}
 use Rattle.log.specs.Book.{Book, bookRules}
 use Rattle.log.specs.Uncaught.{Plain, plainRules}
 
-module _ (accept : List ℕ → Bool) (l w : List ℕ) (L R : ℕ) where
-  format-numbers : numbers (formatRules l L R) ≡ 14 ∷ []
+module _ (accept : List ℕ → Bool) (l w : List ℕ) (L R p : ℕ) where
+  format-numbers : numbers (formatRules l L R p) ≡ 14 ∷ []
   unfolding numbers formatRules
   format-numbers = refl
 
@@ -25,6 +25,6 @@ module _ (accept : List ℕ → Bool) (l w : List ℕ) (L R : ℕ) where
   unfolding numbers bookRules
   book-numbers b = refl
 
-  plain-numbers : (p : Plain) → numbers (plainRules accept L p w) ≡ 3 ∷ 6 ∷ 7 ∷ 13 ∷ []
+  plain-numbers : (q : Plain) → numbers (plainRules accept L q w) ≡ 3 ∷ 6 ∷ 7 ∷ 13 ∷ []
   unfolding numbers plainRules
-  plain-numbers p = refl
+  plain-numbers q = refl

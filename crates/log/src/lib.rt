@@ -8,7 +8,7 @@ use redo::stages;
 ghost use mathlib.Core.Path.{_≡_};
 ghost use mathlib.Core.Bool.{true};
 ghost use mathlib.Core.List.{[]};
-ghost use Prim.Native.Nat.{_+_, _<_};
+ghost use Prim.Native.Nat.{_+_, _*_, _<_};
 ghost use lib.ListN.{length, drop};
 ghost use lib.Dec.{leb};
 ghost use Rattle.wire.specs.Bytes.{pick};
@@ -16,7 +16,7 @@ ghost use Rattle.redo.specs.Image.{mark, homeAt, headOk, home as homeOf, inRang
 ghost use Rattle.redo.specs.Entry.{changes, Loggable};
 ghost use Rattle.redo.specs.Stores.{formatStores, clearMark, commitStores};
 ghost use Rattle.log.specs.Head.{headOf};
-ghost use Rattle.log.specs.Calls.{answer, after, store, formatPlan, recoverPlan, commitPlan, anyBytes};
+ghost use Rattle.log.specs.Calls.{answer, after, store, formattable as formattableAs, formatPlan, recoverPlan, commitPlan, anyBytes};
 
 // What a call that stores answers: done or cut, with the number of stores made, or refused with its number.
 pub enum Outcome {
@@ -83,32 +83,45 @@ pub fn home(image: &[u8]) -> &[u8]
     }
 }
 
-fn write_format(image: &mut [u8], capacity: usize, pages: usize, n: usize) -> Outcome
-    requires { ⌜ (inRange capacity pages ≡ true) × (length (now image) ≡ imageLength capacity pages) ⌝ }
-    ensures { λ r. ⌜ r ≡ answer (store (formatStores capacity pages)) n ⌝ }
-    ensures { λ _. ⌜ now (image .exit) ≡ after (store (formatStores capacity pages)) n (now (image .entry)) ⌝ }
+fn write_format(
+    image: &mut [u8],
+    capacity: usize,
+    pages: usize,
+    p: usize,
+    v: u8,
+    n: usize,
+) -> Outcome
+    requires { ⌜ (inRange capacity pages ≡ true) × (length (now image) ≡ imageLength capacity pages) × (p < 64 * (26 + pages)) ⌝ }
+    ensures { λ r. ⌜ r ≡ answer (store (formatStores capacity pages p v)) n ⌝ }
+    ensures { λ _. ⌜ now (image .exit) ≡ after (store (formatStores capacity pages p v)) n (now (image .entry)) ⌝ }
 {
     let need = image.len() + 1;
     let head = sizes::head_page(capacity, pages);
     let zero = [0u8; 1];
     let a = meter::write_at(image, 0, &zero, n);
     let b = meter::write_at(image, 1, &head[1..64], n - a);
-    let c = meter::write_zeros(image, 64, n - (a + b));
+    let c = meter::write_rest(image, 64, 64 + 66 * capacity + p, v, n - (a + b));
     let d = meter::write_at(image, 0, &head[0..1], n - (a + b + c));
     report(need, n, a + b + c + d)
 }
 
-// Formats the image for L log entries and R record pages.
-pub fn format(image: &mut [u8], capacity: usize, pages: usize, n: usize) -> Outcome
-    ensures { λ r. ⌜ r ≡ answer (formatPlan (now (image .entry)) capacity pages) n ⌝ }
-    ensures { λ _. ⌜ now (image .exit) ≡ after (formatPlan (now (image .entry)) capacity pages) n (now (image .entry)) ⌝ }
+// Whether the sizes are in range, the image's length is theirs, and offset p lies in home.
+fn formattable(image: &[u8], capacity: usize, pages: usize, p: usize) -> bool
+    ensures { λ r. ⌜ r ≡ formattableAs (now (image .entry)) capacity pages p ⌝ }
 {
-    if sizes::in_range(capacity, pages) {
-        if image.len() == sizes::image_length(capacity, pages) {
-            write_format(image, capacity, pages, n)
-        } else {
-            Outcome::Refused(14)
-        }
+    if !sizes::in_range(capacity, pages) {
+        return false;
+    }
+    (image.len() == sizes::image_length(capacity, pages)) & (p < 64 * (26 + pages))
+}
+
+// Formats the image for L log entries and R record pages. Home is zero but for a byte v at offset p.
+pub fn format(image: &mut [u8], capacity: usize, pages: usize, p: usize, v: u8, n: usize) -> Outcome
+    ensures { λ r. ⌜ r ≡ answer (formatPlan (now (image .entry)) capacity pages p v) n ⌝ }
+    ensures { λ _. ⌜ now (image .exit) ≡ after (formatPlan (now (image .entry)) capacity pages p v) n (now (image .entry)) ⌝ }
+{
+    if formattable(image, capacity, pages, p) {
+        write_format(image, capacity, pages, p, v, n)
     } else {
         Outcome::Refused(14)
     }

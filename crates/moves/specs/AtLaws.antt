@@ -37,13 +37,13 @@ pub zone-here : (ls : List Zone) (z : Zone) (hs : List Zone) → getD (ls ++ z �
 zone-here [] z hs = refl
 zone-here (y ∷ ls) z hs = zone-here ls z hs
 
-pub end-next : (c e k : ℕ) (ls : List Zone) (z : Zone) → k ≡ c + length ls → endAfter c e (ls ++ z ∷ []) ≡ endOf cells k (endAfter c e ls) z
+pub end-next : (step c e k : ℕ) (ls : List Zone) (z : Zone) → k ≡ c + length ls → endAfter step c e (ls ++ z ∷ []) ≡ endOf (cells step) k (endAfter step c e ls) z
 unfolding endAfter
-end-next c e k [] z q = let p : c ≡ k = omega arith in ap (λ (d : ℕ). endOf cells d e z) p
-end-next c e k (y ∷ ls) z q = end-next (suc c) (endOf cells c e y) k ls z (omega arith)
+end-next step c e k [] z q = let p : c ≡ k = omega arith in ap (λ (d : ℕ). endOf (cells step) d e z) p
+end-next step c e k (y ∷ ls) z q = end-next step (suc c) (endOf (cells step) c e y) k ls z (omega arith)
 
-pub end-of : (zs : List Zone) (c : ℕ) → c < length zs → endAfter 0 0 (take (suc c) zs) ≡ endOf cells c (endAfter 0 0 (take c zs)) (getD zs c empty)
-end-of zs c g =
-    at-zone zs c g (λ (l : List Zone) (k : ℕ). endAfter 0 0 (take (suc k) l) ≡ endOf cells k (endAfter 0 0 (take k l)) (getD l k empty))
-    (λ ls z hs. ap (endAfter 0 0) (take-next ls z hs) ∙ end-next 0 0 (length ls) ls z (omega arith)
-    ∙ sym (ap₂ (λ (l : List Zone) (y : Zone). endOf cells (length ls) (endAfter 0 0 l) y) (take-here ls z hs) (zone-here ls z hs)))
+pub end-of : (step : ℕ) (zs : List Zone) (c : ℕ) → c < length zs → endAfter step 0 0 (take (suc c) zs) ≡ endOf (cells step) c (endAfter step 0 0 (take c zs)) (getD zs c empty)
+end-of step zs c g =
+    at-zone zs c g (λ (l : List Zone) (k : ℕ). endAfter step 0 0 (take (suc k) l) ≡ endOf (cells step) k (endAfter step 0 0 (take k l)) (getD l k empty))
+    (λ ls z hs. ap (endAfter step 0 0) (take-next ls z hs) ∙ end-next step 0 0 (length ls) ls z (omega arith)
+    ∙ sym (ap₂ (λ (l : List Zone) (y : Zone). endOf (cells step) (length ls) (endAfter step 0 0 l) y) (take-here ls z hs) (zone-here ls z hs)))

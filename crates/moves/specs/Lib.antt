@@ -5,7 +5,7 @@ pub mod AreaLaws
 pub mod EntryLaws
 pub mod StateLaws
 pub mod HomeLaws
-pub mod StepLaws
+pub mod LayoutMoves
 pub mod Stored
 pub mod LooseLaws
 pub mod AtLaws

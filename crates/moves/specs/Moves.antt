@@ -55,6 +55,6 @@ pub record Movable (h : List ℕ) (p : ℕ) : Type 0 where
   pub found : indexOf h (get32 h (cellAt p)) < get16 h 0
 
 -- the block of class c at cell p moved to cell q, and its tag's entry with it
-unfoldable pub moved : List ℕ → ℕ → ℕ → ℕ → List ℕ
+unfoldable pub moved : ℕ → List ℕ → ℕ → ℕ → ℕ → List ℕ
 unfolding carried celled
-moved h c p q = celled (carried h (cellAt p) (cellAt q) (8 * cells c)) (indexOf h (get32 h (cellAt p))) q
+moved step h c p q = celled (carried h (cellAt p) (cellAt q) (8 * cells step c)) (indexOf h (get32 h (cellAt p))) q

@@ -86,7 +86,7 @@ pub unentered-is : (h : List ℕ) (t n i : ℕ) → n ≡ get16 h 0 → i ≡ in
 unfolding unentered
 unentered-is h t n i a b = rw (a, b)
 
-pub moved-is : (h : List ℕ) (c p q t i n : ℕ) → t ≡ get32 h (cellAt p) → i ≡ indexOf h t → n ≡ cells c
-    → celled (carried h (1664 + 8 * p) (1664 + 8 * q) (8 * n)) i q ≡ moved h c p q
+pub moved-is : (step : ℕ) (h : List ℕ) (c p q t i n : ℕ) → t ≡ get32 h (cellAt p) → i ≡ indexOf h t → n ≡ cells step c
+    → celled (carried h (1664 + 8 * p) (1664 + 8 * q) (8 * n)) i q ≡ moved step h c p q
 unfolding moved
-moved-is h c p q t i n a b d = rw (b, a, d)
+moved-is step h c p q t i n a b d = rw (b, a, d)

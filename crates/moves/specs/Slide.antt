@@ -7,7 +7,7 @@ use lib.ListN.{take, drop}
 use Rattle.layout.specs.Zones.{Zone, based}
 use Rattle.home.specs.Bytes.{encode, decode, firstAt, manyAt}
 use Rattle.home.specs.Sound.{pagesOf}
-use Rattle.layout.specs.Layout.{Loose}
+use Rattle.home.specs.Layout.{Loose}
 use Rattle.moves.specs.Close.{zoneOf}
 
 -- zone c from cell `to` on
@@ -15,20 +15,20 @@ abbrev pub rebased : List Zone → ℕ → ℕ → List Zone
 rebased zs c to = take c zs ++ based to (zoneOf zs c) ∷ drop (suc c) zs
 
 -- the bytes of a layout zs that is valid but for its gaps, and so it is with zone c there
-pub record Slides (R : ℕ) (h : List ℕ) (zs : List Zone) (c to : ℕ) : Type 0 where
+pub record Slides (step R : ℕ) (h : List ℕ) (zs : List Zone) (c to : ℕ) : Type 0 where
   pub pages : R ≤ 1024
-  pub bytes : h ≡ encode R zs
-  pub loose : Loose R zs
+  pub bytes : h ≡ encode step R zs
+  pub loose : Loose step R zs
   pub class : c < 30
-  pub next : Loose R (rebased zs c to)
+  pub next : Loose step R (rebased zs c to)
 
 -- home's bytes with it there
-unfoldable pub slid : ℕ → List Zone → ℕ → ℕ → List ℕ
-slid R zs c to = encode R (rebased zs c to)
+unfoldable pub slid : ℕ → ℕ → List Zone → ℕ → ℕ → List ℕ
+slid step R zs c to = encode step R (rebased zs c to)
 
 -- zone c has n blocks, the first one at cell f
-pub record Going (h : List ℕ) (c f to n : ℕ) : Type 0 where
-  pub slides : Slides (pagesOf h) h (decode h) c to
+pub record Going (step : ℕ) (h : List ℕ) (c f to n : ℕ) : Type 0 where
+  pub slides : Slides step (pagesOf h) h (decode h) c to
   pub first : f ≡ firstAt h c
   pub many : n ≡ manyAt h c
   pub some : n ≢ 0

@@ -30,53 +30,53 @@ unentered-at : (h : List ℕ) (t n i : ℕ) → get16 h 0 ≡ n → indexOf h t 
 unfolding unentered
 unentered-at h t n i a b = rw (← a, ← b)
 
-module _ (es a : List ℕ) (le : length es ≡ 120) (ds : List Entry) (ok : Fine ds) where
-  pub state-index : (t : ℕ) → indexOf (state es ds a) t ≡ rank t ds
-  state-index t = rank-entries (state es ds a) t 0 (get16 (state es ds a) 0) ∙ ap (rank t) (state-entries es a le ds ok)
+module _ (step : ℕ) (es a : List ℕ) (le : length es ≡ 120) (ds : List Entry) (ok : Fine ds) where
+  pub state-index : (t : ℕ) → indexOf (state step es ds a) t ≡ rank t ds
+  state-index t = rank-entries (state step es ds a) t 0 (get16 (state step es ds a) 0) ∙ ap (rank t) (state-entries step es a le ds ok)
 
-  pub state-ordered : Pairs Below ds → Ordered (state es ds a)
+  pub state-ordered : Pairs Below ds → Ordered (state step es ds a)
   state-ordered r = record {
-    few = omega (arith, state-tags es a le ds ok, ok .few);
-    long = omega (arith, join-length (length ds) es (padded ds) a le (length-padded ds (ok .few)));
-    rise = λ i j b c. rising-at (state es ds a) 0 (get16 (state es ds a) 0) i j (subst (Pairs Below) (sym (state-entries es a le ds ok)) r) (omega arith) b (omega arith);
+    few = omega (arith, state-tags step es a le ds ok, ok .few);
+    long = omega (arith, join-length step (length ds) es (padded ds) a le (length-padded ds (ok .few)));
+    rise = λ i j b c. rising-at (state step es ds a) 0 (get16 (state step es ds a) 0) i j (subst (Pairs Below) (sym (state-entries step es a le ds ok)) r) (omega arith) b (omega arith);
   }
 
-  pub state-zoned : (c f k : ℕ) → c < 30 → zoned (state es ds a) c f k ≡ state (over es (4 * c) (bytes16 f ++ bytes16 k)) ds a
+  pub state-zoned : (c f k : ℕ) → c < 30 → zoned (state step es ds a) c f k ≡ state step (over es (4 * c) (bytes16 f ++ bytes16 k)) ds a
   unfolding zoned
-  state-zoned c f k g = join-zone (length ds) es (padded ds) a le (length-padded ds (ok .few)) (4 * c) (bytes16 f ++ bytes16 k)
+  state-zoned c f k g = join-zone step (length ds) es (padded ds) a le (length-padded ds (ok .few)) (4 * c) (bytes16 f ++ bytes16 k)
       (rw length-append (omega (arith, length-bytes16 f, length-bytes16 k)))
 
-  pub state-written : (p : ℕ) (bs : List ℕ) → over (state es ds a) (cellAt p) bs ≡ state es ds (over a (8 * p) bs)
-  state-written p bs = join-area (length ds) es (padded ds) a le (length-padded ds (ok .few)) (8 * p) bs
+  pub state-written : (p : ℕ) (bs : List ℕ) → over (state step es ds a) (cellAt p) bs ≡ state step es ds (over a (8 * p) bs)
+  state-written p bs = join-area step (length ds) es (padded ds) a le (length-padded ds (ok .few)) (8 * p) bs
 
-  pub state-carried : (p q n : ℕ) → carried (state es ds a) (cellAt p) (cellAt q) n ≡ state es ds (carried a (8 * p) (8 * q) n)
+  pub state-carried : (p q n : ℕ) → carried (state step es ds a) (cellAt p) (cellAt q) n ≡ state step es ds (carried a (8 * p) (8 * q) n)
   unfolding carried
   state-carried p q n =
-      ap (over (over (state es ds a) (cellAt p) (replicate n 0)) (cellAt q)) (join-part (length ds) es (padded ds) a le (length-padded ds (ok .few)) (8 * p) n)
-      ∙ ap (λ (l : List ℕ). over l (cellAt q) (part a (8 * p) n)) (join-area (length ds) es (padded ds) a le (length-padded ds (ok .few)) (8 * p) (replicate n 0))
-      ∙ join-area (length ds) es (padded ds) (over a (8 * p) (replicate n 0)) le (length-padded ds (ok .few)) (8 * q) (part a (8 * p) n)
+      ap (over (over (state step es ds a) (cellAt p) (replicate n 0)) (cellAt q)) (join-part step (length ds) es (padded ds) a le (length-padded ds (ok .few)) (8 * p) n)
+      ∙ ap (λ (l : List ℕ). over l (cellAt q) (part a (8 * p) n)) (join-area step (length ds) es (padded ds) a le (length-padded ds (ok .few)) (8 * p) (replicate n 0))
+      ∙ join-area step (length ds) es (padded ds) (over a (8 * p) (replicate n 0)) le (length-padded ds (ok .few)) (8 * q) (part a (8 * p) n)
 
-  pub state-bears : (p : ℕ) → get32 (state es ds a) (cellAt p) ≡ get32 a (8 * p)
-  state-bears p = join-bears (length ds) es (padded ds) a le (length-padded ds (ok .few)) (8 * p)
+  pub state-bears : (p : ℕ) → get32 (state step es ds a) (cellAt p) ≡ get32 a (8 * p)
+  state-bears p = join-bears step (length ds) es (padded ds) a le (length-padded ds (ok .few)) (8 * p)
 
 -- ---- one entry among lower and higher ones
 
-module _ (es : List ℕ) (le : length es ≡ 120) (pre post : List Entry) where
+module _ (step : ℕ) (es : List ℕ) (le : length es ≡ 120) (pre post : List Entry) where
   longer : (x : Entry) → length (pre ++ x ∷ post) ≡ suc (length (pre ++ post))
   longer x = simp length-append (omega arith)
 
   long : length (pre ++ post) ≡ length pre + length post
   long = length-append pre post
 
-  state-celled : (a : List ℕ) (x x' : Entry) → x .tag ≡ x' .tag → Fine (pre ++ x ∷ post) → celled (state es (pre ++ x ∷ post) a) (length pre) (x' .cell) ≡ state es (pre ++ x' ∷ post) a
+  state-celled : (a : List ℕ) (x x' : Entry) → x .tag ≡ x' .tag → Fine (pre ++ x ∷ post) → celled (state step es (pre ++ x ∷ post) a) (length pre) (x' .cell) ≡ state step es (pre ++ x' ∷ post) a
   unfolding celled
   state-celled a x x' q ok =
       let i : ℕ = length pre in
       let e : 128 + 6 * i + 4 ≡ 128 + (6 * i + 4) = omega arith in
-      ap (λ (k : ℕ). over (state es (pre ++ x ∷ post) a) k (bytes16 (x' .cell))) e
-      ∙ join-entry (length (pre ++ x ∷ post)) es (padded (pre ++ x ∷ post)) a le (length-padded (pre ++ x ∷ post) (ok .few)) (6 * i + 4) (bytes16 (x' .cell))
+      ap (λ (k : ℕ). over (state step es (pre ++ x ∷ post) a) k (bytes16 (x' .cell))) e
+      ∙ join-entry step (length (pre ++ x ∷ post)) es (padded (pre ++ x ∷ post)) a le (length-padded (pre ++ x ∷ post) (ok .few)) (6 * i + 4) (bytes16 (x' .cell))
       (omega (arith, ok .few, longer x, long, length-bytes16 (x' .cell)))
-      ∙ ap₂ (λ (k : ℕ) (l : List ℕ). join k es l a) (longer x ∙ sym (longer x')) (padded-celled pre post x x' q)
+      ∙ ap₂ (λ (k : ℕ) (l : List ℕ). join step k es l a) (longer x ∙ sym (longer x')) (padded-celled pre post x x' q)
 
   module _ (a : List ℕ) (t : ℕ) (low : All (λ (d : Entry). d .tag < t) pre) (high : All (λ (d : Entry). t < d .tag) post) where
     not-below : All (λ (d : Entry). t ≤ d .tag) post
@@ -85,26 +85,26 @@ module _ (es : List ℕ) (le : length es ≡ 120) (pre post : List Entry) where
     rank-one : (x : Entry) → x .tag ≡ t → rank t (pre ++ x ∷ post) ≡ length pre
     rank-one x q = let b : t ≤ x .tag = omega arith in rank-at t pre (x ∷ post) low (more b not-below)
 
-    pub state-movable : (x : Entry) (p : ℕ) → x .tag ≡ t → Fine (pre ++ x ∷ post) → Pairs Below (pre ++ x ∷ post) → get32 a (8 * p) ≡ t → Movable (state es (pre ++ x ∷ post) a) p
+    pub state-movable : (x : Entry) (p : ℕ) → x .tag ≡ t → Fine (pre ++ x ∷ post) → Pairs Below (pre ++ x ∷ post) → get32 a (8 * p) ≡ t → Movable (state step es (pre ++ x ∷ post) a) p
     state-movable x p e ok r b =
         let ds : List Entry = pre ++ x ∷ post in
-        let i : indexOf (state es ds a) (get32 (state es ds a) (cellAt p)) ≡ length pre =
-        ap (indexOf (state es ds a)) (state-bears es a le ds ok p ∙ b) ∙ state-index es a le ds ok t ∙ rank-one x e in
-        record { ordered = state-ordered es a le ds ok r; found = omega (arith, i, longer x, long, state-tags es a le ds ok) }
+        let i : indexOf (state step es ds a) (get32 (state step es ds a) (cellAt p)) ≡ length pre =
+        ap (indexOf (state step es ds a)) (state-bears step es a le ds ok p ∙ b) ∙ state-index step es a le ds ok t ∙ rank-one x e in
+        record { ordered = state-ordered step es a le ds ok r; found = omega (arith, i, longer x, long, state-tags step es a le ds ok) }
 
     -- a block moved
     pub state-moved : (x : Entry) (c p q : ℕ) → x .tag ≡ t → Fine (pre ++ x ∷ post) → get32 a (8 * p) ≡ t
-        → moved (state es (pre ++ x ∷ post) a) c p q ≡ state es (pre ++ record { tag = t; cell = q } ∷ post) (carried a (8 * p) (8 * q) (8 * cells c))
+        → moved step (state step es (pre ++ x ∷ post) a) c p q ≡ state step es (pre ++ record { tag = t; cell = q } ∷ post) (carried a (8 * p) (8 * q) (8 * cells step c))
     unfolding moved
     state-moved x c p q e ok b =
         let ds : List Entry = pre ++ x ∷ post in
-        let i : indexOf (state es ds a) (get32 (state es ds a) (cellAt p)) ≡ length pre =
-        ap (indexOf (state es ds a)) (state-bears es a le ds ok p ∙ b) ∙ state-index es a le ds ok t ∙ rank-one x e in
-        ap₂ (λ (h : List ℕ) (k : ℕ). celled h k q) (state-carried es a le ds ok p q (8 * cells c)) i
-        ∙ state-celled (carried a (8 * p) (8 * q) (8 * cells c)) x (record { tag = t; cell = q }) e ok
+        let i : indexOf (state step es ds a) (get32 (state step es ds a) (cellAt p)) ≡ length pre =
+        ap (indexOf (state step es ds a)) (state-bears step es a le ds ok p ∙ b) ∙ state-index step es a le ds ok t ∙ rank-one x e in
+        ap₂ (λ (h : List ℕ) (k : ℕ). celled h k q) (state-carried step es a le ds ok p q (8 * cells step c)) i
+        ∙ state-celled (carried a (8 * p) (8 * q) (8 * cells step c)) x (record { tag = t; cell = q }) e ok
 
     -- a tag entered
-    pub state-entered : (p : ℕ) → Fine (pre ++ post) → length (pre ++ post) < 256 → entered (state es (pre ++ post) a) t p ≡ state es (pre ++ record { tag = t; cell = p } ∷ post) a
+    pub state-entered : (p : ℕ) → Fine (pre ++ post) → length (pre ++ post) < 256 → entered (state step es (pre ++ post) a) t p ≡ state step es (pre ++ record { tag = t; cell = p } ∷ post) a
     state-entered p ok g =
         let x : Entry = record { tag = t; cell = p } in
         let ds : List Entry = pre ++ post in
@@ -120,15 +120,15 @@ module _ (es : List ℕ) (le : length es ≡ 120) (pre post : List Entry) where
         let lw : length w ≡ 1536 = length-over (padded ds) (6 * i + 6) v ∙ l in
         let y : List ℕ = over w (6 * i) (word x) in
         let ly : length y ≡ 1536 = length-over w (6 * i) (word x) ∙ lw in
-        entered-at (state es ds a) t p n i (state-tags es a le ds ok) (state-index es a le ds ok t ∙ rank-at t pre post low not-below)
-        ∙ ap₂ (λ (j : ℕ) (u : List ℕ). over (over (over (state es ds a) j u) (128 + 6 * i) (word x)) 0 (bytes16 (n + 1))) e (join-words n es (padded ds) a le l (6 * i) k (omega arith))
-        ∙ ap (λ (h : List ℕ). over (over h (128 + 6 * i) (word x)) 0 (bytes16 (n + 1))) (join-entry n es (padded ds) a le l (6 * i + 6) v (omega arith))
-        ∙ ap (λ (h : List ℕ). over h 0 (bytes16 (n + 1))) (join-entry n es w a le lw (6 * i) (word x) (omega (arith, length-word x)))
-        ∙ join-count n es y a le ly (n + 1)
-        ∙ ap₂ (λ (m : ℕ) (u : List ℕ). join m es u a) (add-one n ∙ sym (longer x)) (padded-entered pre post x k (omega arith) (omega arith))
+        entered-at (state step es ds a) t p n i (state-tags step es a le ds ok) (state-index step es a le ds ok t ∙ rank-at t pre post low not-below)
+        ∙ ap₂ (λ (j : ℕ) (u : List ℕ). over (over (over (state step es ds a) j u) (128 + 6 * i) (word x)) 0 (bytes16 (n + 1))) e (join-words step n es (padded ds) a le l (6 * i) k (omega arith))
+        ∙ ap (λ (h : List ℕ). over (over h (128 + 6 * i) (word x)) 0 (bytes16 (n + 1))) (join-entry step n es (padded ds) a le l (6 * i + 6) v (omega arith))
+        ∙ ap (λ (h : List ℕ). over h 0 (bytes16 (n + 1))) (join-entry step n es w a le lw (6 * i) (word x) (omega (arith, length-word x)))
+        ∙ join-count step n es y a le ly (n + 1)
+        ∙ ap₂ (λ (m : ℕ) (u : List ℕ). join step m es u a) (add-one n ∙ sym (longer x)) (padded-entered pre post x k (omega arith) (omega arith))
 
     -- a tag's entry taken out
-    pub state-unentered : (x : Entry) → x .tag ≡ t → Fine (pre ++ x ∷ post) → unentered (state es (pre ++ x ∷ post) a) t ≡ state es (pre ++ post) a
+    pub state-unentered : (x : Entry) → x .tag ≡ t → Fine (pre ++ x ∷ post) → unentered (state step es (pre ++ x ∷ post) a) t ≡ state step es (pre ++ post) a
     state-unentered x q ok =
         let ds : List Entry = pre ++ x ∷ post in
         let n : ℕ = length ds in
@@ -144,10 +144,10 @@ module _ (es : List ℕ) (le : length es ≡ 120) (pre post : List Entry) where
         let lw : length w ≡ 1536 = length-over (padded ds) (6 * i) v ∙ l in
         let y : List ℕ = over w (6 * (n - 1)) (replicate 6 0) in
         let ly : length y ≡ 1536 = length-over w (6 * (n - 1)) (replicate 6 0) ∙ lw in
-        unentered-at (state es ds a) t n i (state-tags es a le ds ok) (state-index es a le ds ok t ∙ rank-one x q)
-        ∙ ap (λ (u : List ℕ). over (over (over (state es ds a) (128 + 6 * i) u) (128 + 6 * (n - 1)) (replicate 6 0)) 0 (bytes16 (n - 1)))
-        (ap (λ (j : ℕ). part (state es ds a) j k) e ∙ join-words n es (padded ds) a le l (6 * i + 6) k (omega arith))
-        ∙ ap (λ (h : List ℕ). over (over h (128 + 6 * (n - 1)) (replicate 6 0)) 0 (bytes16 (n - 1))) (join-entry n es (padded ds) a le l (6 * i) v (omega arith))
-        ∙ ap (λ (h : List ℕ). over h 0 (bytes16 (n - 1))) (join-entry n es w a le lw (6 * (n - 1)) (replicate 6 0) (omega arith))
-        ∙ join-count n es y a le ly (n - 1)
-        ∙ ap₂ (λ (m : ℕ) (u : List ℕ). join m es u a) (omega (arith, longer x)) (padded-unentered pre post x k (6 * (n - 1)) (omega arith) (omega arith) (omega arith))
+        unentered-at (state step es ds a) t n i (state-tags step es a le ds ok) (state-index step es a le ds ok t ∙ rank-one x q)
+        ∙ ap (λ (u : List ℕ). over (over (over (state step es ds a) (128 + 6 * i) u) (128 + 6 * (n - 1)) (replicate 6 0)) 0 (bytes16 (n - 1)))
+        (ap (λ (j : ℕ). part (state step es ds a) j k) e ∙ join-words step n es (padded ds) a le l (6 * i + 6) k (omega arith))
+        ∙ ap (λ (h : List ℕ). over (over h (128 + 6 * (n - 1)) (replicate 6 0)) 0 (bytes16 (n - 1))) (join-entry step n es (padded ds) a le l (6 * i) v (omega arith))
+        ∙ ap (λ (h : List ℕ). over h 0 (bytes16 (n - 1))) (join-entry step n es w a le lw (6 * (n - 1)) (replicate 6 0) (omega arith))
+        ∙ join-count step n es y a le ly (n - 1)
+        ∙ ap₂ (λ (m : ℕ) (u : List ℕ). join step m es u a) (omega (arith, longer x)) (padded-unentered pre post x k (6 * (n - 1)) (omega arith) (omega arith) (omega arith))

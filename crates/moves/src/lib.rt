@@ -3,8 +3,8 @@ pub mod close;
 pub mod slide;
 
 use home::AREA;
-use layout::classes::cells;
 use home::lookup::index_of;
+use layout::classes::cells;
 ghost use mathlib.Core.Path.{_≡_};
 ghost use Prim.Native.Nat.{_+_, _*_, _≤_, _<_, min};
 ghost use lib.ListN.{length};
@@ -80,14 +80,14 @@ pub fn remove_entry(home: &mut [u8], tag: u32)
 }
 
 // Moves the block of class c at a cell to another one, and corrects its tag's entry.
-pub fn move_block(home: &mut [u8], c: usize, from: usize, to: usize)
-    requires { ⌜ (c < 30) × (cellAt from + 8 * sizeOf c ≤ length (now home)) × (cellAt to + 8 * sizeOf c ≤ length (now home)) ⌝ }
+pub fn move_block(home: &mut [u8], step: usize, c: usize, from: usize, to: usize)
+    requires { ⌜ (c < 30) × (cellAt from + 8 * sizeOf step c ≤ length (now home)) × (cellAt to + 8 * sizeOf step c ≤ length (now home)) ⌝ }
     requires { ⌜ Movable (now home) from ⌝ }
-    ensures { λ _. ⌜ now (home .exit) ≡ moved (now (home .entry)) c from to ⌝ }
+    ensures { λ _. ⌜ now (home .exit) ≡ moved step (now (home .entry)) c from to ⌝ }
 {
     let tag = wire::get32(home, AREA + 8 * from);
     let i = index_of(home, tag);
-    let n = 8 * cells(c);
+    let n = 8 * cells(step, c);
     carry(home, AREA + 8 * from, AREA + 8 * to, n);
     set_cell(home, i, to);
 }

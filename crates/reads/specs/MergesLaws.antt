@@ -14,9 +14,11 @@ use Rattle.merges.specs.declared.Merge.{Merge}
 use Rattle.records.specs.Records.{encode, decode}
 use Rattle.merges.specs.Merging.{merge}
 use Rattle.records.specs.Edits.{decode-encode}
+use Rattle.layout.specs.Capacities.{cells, classOf}
+use Rattle.layout.specs.CapacitiesLaws.{rising as rises}
 use Rattle.layout.specs.EditsLaws.{valid-listed}
 use Rattle.home.specs.HomeLaws.{all-mem}
-use Rattle.home.specs.Bytes.{decode as zonesIn}
+use Rattle.home.specs.Bytes.{stepOf, decode as zonesIn}
 use Rattle.home.specs.Sound.{pagesOf, sound, listOf}
 use Rattle.home.specs.SoundLaws.{sound-valid}
 use Rattle.home.specs.declared.Answer.{Answer}
@@ -31,7 +33,7 @@ use Rattle.reads.specs.Merges.{written, mergeIn}
 -- lists of a sound home are rising and their values fit
 pub sound-listed : (h : List ℕ) (t : ℕ) → sound h ≡ true → Proper (listOf h t)
 unfolding listOf
-sound-listed h t e = valid-listed (8 * pagesOf h) t (zonesIn h) (sound-valid h e)
+sound-listed h t e = valid-listed (cells (stepOf h)) (classOf (stepOf h)) (rises (stepOf h)) (8 * pagesOf h) t (zonesIn h) (sound-valid h e)
 
 pub list-reads : (h : List ℕ) (t : ℕ) (bs : List ℕ) → sound h ≡ true → bs ≡ encode (listOf h t) → decode bs ≡ listOf h t
 list-reads h t bs e f = ap decode f ∙ decode-encode (listOf h t) (all-mem (listOf h t) (sound-listed h t e .fits))

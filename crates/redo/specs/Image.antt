@@ -4,7 +4,7 @@ use mathlib.Core.Bool.{Bool, _&&_}
 use mathlib.Core.List.{List, [], _∷_, _++_}
 use lib.ListN.{length, drop, getD, replicate}
 use lib.Dec.{leb, eqb}
-use Rattle.wire.specs.Bytes.{part, get16, bytes16, equal, blank}
+use Rattle.wire.specs.Bytes.{part, get16, bytes16, equal, blank, zerosBut}
 
 -- bytes 0–3: the ASCII letters CIX1
 unfoldable pub letters : List ℕ
@@ -49,9 +49,10 @@ headOk l =
     && blank (part l 11 53)
     && eqb (length l) (imageLength (capacity l) (recordPages l))
 
--- an empty index: the head with entry count and mark 0, and zeros from byte 64 on
+-- an empty image: the head with entry count and mark 0, and zeros from byte 64 on but for the byte v at offset p of home
 unfoldable pub headPage : ℕ → ℕ → List ℕ
 headPage L R = letters ++ (bytes16 L ++ (bytes16 R ++ replicate 56 0))
 
-unfoldable pub emptyImage : ℕ → ℕ → List ℕ
-emptyImage L R = headPage L R ++ replicate (imageLength L R - 64) 0
+unfoldable pub emptyImage : ℕ → ℕ → ℕ → ℕ → List ℕ
+unfolding zerosBut
+emptyImage L R p v = headPage L R ++ zerosBut (66 * L + p) v (imageLength L R - 64)

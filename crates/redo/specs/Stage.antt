@@ -1,15 +1,16 @@
 -- A stage of a call: some of its stores, with stores left and made before and after.
 use mathlib.Core.Path.{_≡_, sym, ap, _∙_}
-use Prim.Native.Nat.{ℕ, _+_, _-_, _≤_, _<_, min}
+use Prim.Native.Nat.{ℕ, suc, _+_, _-_, _≤_, _<_, min}
 use native.Mathlib.Decide.{decLe}
 use native.Mathlib.Nat.{min-eq-left, min-eq-right}
 use native.Mathlib.Omega.{arith}
-use mathlib.Core.List.{List, [], _++_}
-use lib.ListN.{length, take, length-append}
+use native.Mathlib.Numerals.{add-one}
+use mathlib.Core.List.{List, [], _∷_, _++_}
+use lib.ListN.{length, take, replicate, length-append, length-replicate}
 use lib.Seq.{take-nil, take-all, take-length}
-use Rattle.wire.specs.Bytes.{over}
+use Rattle.wire.specs.Bytes.{over, zerosBut}
 use Rattle.redo.specs.Store.{Store, apply, run}
-use Rattle.redo.specs.StoreLaws.{apply-none, apply-take-append, apply-take-run, length-run}
+use Rattle.redo.specs.StoreLaws.{run-append, apply-none, apply-take-append, apply-take-run, length-run}
 
 -- n stores were left and m made before the stores ss, n' and m' after: the first n of them were made on l, which is then l'
 pub record Stage (n m : ℕ) (ss : List Store) (l : List ℕ) (n' m' : ℕ) (l' : List ℕ) : Type 0 where
@@ -66,6 +67,12 @@ stage-run n m i a bs l l' e s h = record {
   made = rw length-run (omega arith);
   bytes = h ∙ ap (over l a) (ap (λ (k : ℕ). take k bs) e ∙ take-min n bs) ∙ sym (apply-take-run n a bs l);
 }
+
+-- zeros but for one byte: those before it, the byte, and those behind it
+pub stage-but : {n n₁ m₁ n₂ m₂ n₃ m₃ : ℕ} {l l₁ l₂ l₃ : List ℕ} (at q v m p r : ℕ) → p ≡ at + q → r ≡ m - suc q → Stage n 0 (run at (replicate q 0)) l n₁ m₁ l₁
+    → Stage n₁ m₁ (run p (v ∷ [])) l₁ n₂ m₂ l₂ → Stage n₂ m₂ (run (p + 1) (replicate r 0)) l₂ n₃ m₃ l₃ → Stage n 0 (run at (zerosBut q v m)) l n₃ m₃ l₃
+unfolding zerosBut run
+stage-but at q v m p r e f a b c = rw (run-append, length-replicate, ← e, ← f) (stage-more a (stage-more b (rw add-one at c)))
 
 -- stores are left, so all of ss were made
 pub stage-whole : {n m n' m' : ℕ} {ss : List Store} {l l' : List ℕ} → Stage n m ss l n' m' l' → 0 < n' → l' ≡ apply ss l

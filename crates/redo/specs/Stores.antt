@@ -10,8 +10,8 @@ use Rattle.redo.specs.Entry.{Entry, logged, replay}
 -- ---- format
 
 -- byte 0 as 0 first, then all other bytes from 1 up, then byte 0 as its letter
-unfoldable pub formatStores : ℕ → ℕ → List Store
-formatStores L R = run 0 (0 ∷ []) ++ (run 1 (drop 1 (emptyImage L R)) ++ run 0 (take 1 letters))
+unfoldable pub formatStores : ℕ → ℕ → ℕ → ℕ → List Store
+formatStores L R p v = run 0 (0 ∷ []) ++ (run 1 (drop 1 (emptyImage L R p v)) ++ run 0 (take 1 letters))
 
 -- ---- recover
 

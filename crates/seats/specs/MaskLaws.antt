@@ -46,10 +46,10 @@ module _ (low : List ℕ) (c : ℕ) (long : length low ≡ 4 * c) (under : c ≤
 
   -- ---- moves
 
-  mask-moved : (h : List ℕ) (d p q : ℕ) → moved (masked low h) d p q ≡ masked low (moved h d p q)
+  mask-moved : (step : ℕ) (h : List ℕ) (d p q : ℕ) → moved step (masked low h) d p q ≡ masked low (moved step h d p q)
   unfolding moved carried celled
-  mask-moved h d p q =
-      let n : ℕ = 8 * cells d in
+  mask-moved step h d p q =
+      let n : ℕ = 8 * cells step d in
       let z : List ℕ = replicate n 0 in
       let i : ℕ = indexOf h (get32 h (cellAt p)) in
       let k : indexOf (masked low h) (get32 (masked low h) (cellAt p)) ≡ i = ap (indexOf (masked low h)) (mask-32 h (cellAt p) (omega arith)) ∙ mask-index h (get32 h (cellAt p)) in
@@ -62,10 +62,10 @@ module _ (low : List ℕ) (c : ℕ) (long : length low ≡ 4 * c) (under : c ≤
   unfolding zoned
   mask-zoned h d f n g = mask-over h (zoneEntryAt d) (bytes16 f ++ bytes16 n) (omega arith)
 
-  mask-displaced : (h : List ℕ) (d f n q : ℕ) → c ≤ d → displaced (masked low h) d f n q ≡ masked low (displaced h d f n q)
+  mask-displaced : (step : ℕ) (h : List ℕ) (d f n q : ℕ) → c ≤ d → displaced step (masked low h) d f n q ≡ masked low (displaced step h d f n q)
   unfolding displaced
-  mask-displaced h d f n q g =
-      ap (λ (x : List ℕ). zoned x d (firstWith n (f + cells d) q) (n + 1)) (mask-moved h d f q) ∙ mask-zoned (moved h d f q) d (firstWith n (f + cells d) q) (n + 1) g
+  mask-displaced step h d f n q g =
+      ap (λ (x : List ℕ). zoned x d (firstWith n (f + cells step d) q) (n + 1)) (mask-moved step h d f q) ∙ mask-zoned (moved step h d f q) d (firstWith n (f + cells step d) q) (n + 1) g
 
   -- ---- zones from class d up
 
@@ -76,43 +76,43 @@ module _ (low : List ℕ) (c : ℕ) (long : length low ≡ 4 * c) (under : c ≤
     pub mask-many : manyAt (masked low h) d ≡ manyAt h d
     mask-many = mask-16 h (zoneEntryAt d + 2) (omega arith)
 
-    pub mask-end : (e : ℕ) → endAt (masked low h) d e ≡ endAt h d e
+    pub mask-end : (step e : ℕ) → endAt step (masked low h) d e ≡ endAt step h d e
     unfolding endAt
-    mask-end e = rw (mask-first, mask-many)
+    mask-end step e = rw (mask-first, mask-many)
 
   -- what is asked of them
   pub mask-untouched : (lo : ℕ) (h : List ℕ) → Untouched lo h (masked low h)
   mask-untouched lo h = record { long = length-over h 2 low; count = mask-count h; tags = λ i g. mask-32 h (128 + 6 * i) (omega arith); heads = λ p g. mask-32 h (cellAt p) (omega arith) }
 
-  pub mask-stacked : (m : ℕ) (h : List ℕ) (d e : ℕ) → c ≤ d → Stacked m h d e → Stacked m (masked low h) d e
-  mask-stacked zero h d e g s = omega (arith, s, length-over h 2 low)
-  mask-stacked (suc m) h d e g s = (
+  pub mask-stacked : (step m : ℕ) (h : List ℕ) (d e : ℕ) → c ≤ d → Stacked step m h d e → Stacked step m (masked low h) d e
+  mask-stacked step zero h d e g s = omega (arith, s, length-over h 2 low)
+  mask-stacked step (suc m) h d e g s = (
     λ z. let a = s .0 (λ y. z (mask-many h d g ∙ y)) in (
       omega (arith, a .0, mask-first h d g),
       subst (Movable (masked low h)) (sym (mask-first h d g)) (untouched-movable (suc (firstAt h d)) h (masked low h) (firstAt h d) (mask-untouched (suc (firstAt h d)) h) (omega arith) (a .1)),
     ),
-    subst (Stacked m (masked low h) (suc d)) (sym (mask-end h d g e)) (mask-stacked m h (suc d) (endAt h d e) (omega arith) (s .1)),
+    subst (Stacked step m (masked low h) (suc d)) (sym (mask-end h d g step e)) (mask-stacked step m h (suc d) (endAt step h d e) (omega arith) (s .1)),
   )
 
   -- ends
-  pub mask-ends : (m : ℕ) (h : List ℕ) (d e : ℕ) → c ≤ d → endFrom m (masked low h) d e ≡ endFrom m h d e
+  pub mask-ends : (step m : ℕ) (h : List ℕ) (d e : ℕ) → c ≤ d → endFrom step m (masked low h) d e ≡ endFrom step m h d e
   unfolding endFrom
-  mask-ends zero h d e g = refl
-  mask-ends (suc m) h d e g = ap (endFrom m (masked low h) (suc d)) (mask-end h d g e) ∙ mask-ends m h (suc d) (endAt h d e) (omega arith)
+  mask-ends step zero h d e g = refl
+  mask-ends step (suc m) h d e g = ap (endFrom step m (masked low h) (suc d)) (mask-end h d g step e) ∙ mask-ends step m h (suc d) (endAt step h d e) (omega arith)
 
   -- room made
-  pub mask-raised : (m : ℕ) (h : List ℕ) (d e : ℕ) → c ≤ d → raised m (masked low h) d e ≡ Option·map (masked low) (raised m h d e)
+  pub mask-raised : (step m : ℕ) (h : List ℕ) (d e : ℕ) → c ≤ d → raised step m (masked low h) d e ≡ Option·map (masked low) (raised step m h d e)
   unfolding raised
-  mask-raised zero h d e g =
+  mask-raised step zero h d e g =
       by-test (leb (cellAt e) (length h))
       (λ t. rw (length-over h 2 low, t))
       (λ t. rw (length-over h 2 low, t))
-  mask-raised (suc m) h d e g =
+  mask-raised step (suc m) h d e g =
       by-eq (manyAt h d) 0
-      (λ z. raised-skip (masked low h) d e m (mask-many h d g ∙ z) ∙ mask-raised m h (suc d) e (omega arith) ∙ ap (Option·map (masked low)) (sym (raised-skip h d e m z)))
+      (λ z. raised-skip step (masked low h) d e m (mask-many h d g ∙ z) ∙ mask-raised step m h (suc d) e (omega arith) ∙ ap (Option·map (masked low)) (sym (raised-skip step h d e m z)))
       (λ z. by-lt (firstAt h d) e
-      (λ a. raised-lifts (masked low h) d e m (λ y. z (sym (mask-many h d g) ∙ y)) (omega (arith, mask-first h d g))
-      ∙ rw (mask-many h d g, mask-first h d g) (ap (Option·map (λ (x : List ℕ). displaced x d (firstAt h d) (manyAt h d - 1) (lift h d e))) (mask-raised m h (suc d) (lift h d e + cells d) (omega arith))
-      ∙ map-swap (λ (x : List ℕ). displaced x d (firstAt h d) (manyAt h d - 1) (lift h d e)) (masked low) (raised m h (suc d) (lift h d e + cells d)) (λ x. mask-displaced x d (firstAt h d) (manyAt h d - 1) (lift h d e) g))
-      ∙ ap (Option·map (masked low)) (sym (raised-lifts h d e m z a)))
-      (λ a. raised-stays (masked low h) d e m (λ y. z (sym (mask-many h d g) ∙ y)) (omega (arith, mask-first h d g)) ∙ ap (Option·map (masked low)) (sym (raised-stays h d e m z a))))
+      (λ a. raised-lifts step (masked low h) d e m (λ y. z (sym (mask-many h d g) ∙ y)) (omega (arith, mask-first h d g))
+      ∙ rw (mask-many h d g, mask-first h d g) (ap (Option·map (λ (x : List ℕ). displaced step x d (firstAt h d) (manyAt h d - 1) (lift step h d e))) (mask-raised step m h (suc d) (lift step h d e + cells step d) (omega arith))
+      ∙ map-swap (λ (x : List ℕ). displaced step x d (firstAt h d) (manyAt h d - 1) (lift step h d e)) (masked low) (raised step m h (suc d) (lift step h d e + cells step d)) (λ x. mask-displaced step x d (firstAt h d) (manyAt h d - 1) (lift step h d e) g))
+      ∙ ap (Option·map (masked low)) (sym (raised-lifts step h d e m z a)))
+      (λ a. raised-stays step (masked low h) d e m (λ y. z (sym (mask-many h d g) ∙ y)) (omega (arith, mask-first h d g)) ∙ ap (Option·map (masked low)) (sym (raised-stays step h d e m z a))))

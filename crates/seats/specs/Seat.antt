@@ -23,10 +23,10 @@ unfoldable pub firstWith : ℕ → ℕ → ℕ → ℕ
 firstWith n f p = pick (eqb n 0) p f
 
 -- "the last nonempty end", carried along as m classes from c up "are passed"
-unfoldable pub endFrom : ℕ → List ℕ → ℕ → ℕ → ℕ
+unfoldable pub endFrom : ℕ → ℕ → List ℕ → ℕ → ℕ → ℕ
 unfolding endAt
-endFrom zero h c e = e
-endFrom (suc m) h c e = endFrom m h (suc c) (endAt h c e)
+endFrom step zero h c e = e
+endFrom step (suc m) h c e = endFrom step m h (suc c) (endAt step h c e)
 
 -- ---- what is in the way
 
@@ -36,21 +36,21 @@ nextZone zero h c = c
 nextZone (suc m) h c = pick (eqb (manyAt h c) 0) (nextZone m h (suc c)) c
 
 -- "d's first block is lifted off (nothing fills its place; zone d starts one block later)": zone c has it at cell f and n others, and it goes to cell q
-unfoldable pub displaced : List ℕ → ℕ → ℕ → ℕ → ℕ → List ℕ
+unfoldable pub displaced : ℕ → List ℕ → ℕ → ℕ → ℕ → ℕ → List ℕ
 unfolding moved zoned firstWith
-displaced h c f n q = zoned (moved h c f q) c (firstWith n (f + cells c) q) (n + 1)
+displaced step h c f n q = zoned (moved step h c f q) c (firstWith n (f + cells step c) q) (n + 1)
 
 -- the bytes once the lower zones may end at e, of m zones from c up. "If it fits before the next higher nonempty zone d (or the area's end), done. If not and no d
 -- exists: no room." If not, "the lifted one is placed by the same rule".
-unfoldable pub raised : ℕ → List ℕ → ℕ → ℕ → Option (List ℕ)
+unfoldable pub raised : ℕ → ℕ → List ℕ → ℕ → ℕ → Option (List ℕ)
 unfolding cellFor displaced
-raised zero h c e = pick (leb (cellAt e) (length h)) (some h) none
-raised (suc m) h c e =
+raised step zero h c e = pick (leb (cellAt e) (length h)) (some h) none
+raised step (suc m) h c e =
     let f : ℕ = firstAt h c in
     let n : ℕ = manyAt h c - 1 in
-    let q : ℕ = cellFor e (f + cells c) n (cells c) in
-    pick (eqb (manyAt h c) 0) (raised m h (suc c) e)
-    (pick (leb e f) (some h) (Option·map (λ (x : List ℕ). displaced x c f n q) (raised m h (suc c) (q + cells c))))
+    let q : ℕ = cellFor e (f + cells step c) n (cells step c) in
+    pick (eqb (manyAt h c) 0) (raised step m h (suc c) e)
+    (pick (leb e f) (some h) (Option·map (λ (x : List ℕ). displaced step x c f n q) (raised step m h (suc c) (q + cells step c))))
 
 -- at cell p, if there is room
 unfoldable pub roomOf : Bool → ℕ → Room
@@ -59,17 +59,17 @@ roomOf b p = pick b (At p) Nowhere
 -- ---- what is asked of the bytes
 
 -- m zones from c up lie one behind the other from cell e on, inside the bytes, and the first block of each can be found
-abbrev pub Stacked : ℕ → List ℕ → ℕ → ℕ → Type 0
-Stacked zero h c e = cellAt e ≤ length h
-Stacked (suc m) h c e = (manyAt h c ≢ 0 → (e ≤ firstAt h c) × Movable h (firstAt h c)) × Stacked m h (suc c) (endAt h c e)
+abbrev pub Stacked : ℕ → ℕ → List ℕ → ℕ → ℕ → Type 0
+Stacked step zero h c e = cellAt e ≤ length h
+Stacked step (suc m) h c e = (manyAt h c ≢ 0 → (e ≤ firstAt h c) × Movable h (firstAt h c)) × Stacked step m h (suc c) (endAt step h c e)
 
 -- the bytes are no longer than a home of 1,024 pages, the zones above c lie so, and a block of class c goes to the end of its zone or before it
-pub record Seatable (h : List ℕ) (c f n e : ℕ) : Type 0 where
+pub record Seatable (step : ℕ) (h : List ℕ) (c f n e : ℕ) : Type 0 where
   pub long : length h ≤ 67200
   pub class : c < 30
-  pub above : Stacked (29 - c) h (c + 1) (endAt h c e)
-  pub cell : cellFor e f n (cells c) ≤ endAt h c e
+  pub above : Stacked step (29 - c) h (c + 1) (endAt step h c e)
+  pub cell : cellFor e f n (cells step c) ≤ endAt step h c e
 
 -- the bytes with room for it behind its cell
-abbrev pub seated : List ℕ → ℕ → ℕ → ℕ → ℕ → Option (List ℕ)
-seated h c f n e = raised (29 - c) h (c + 1) (cellFor e f n (cells c) + cells c)
+abbrev pub seated : ℕ → List ℕ → ℕ → ℕ → ℕ → ℕ → Option (List ℕ)
+seated step h c f n e = raised step (29 - c) h (c + 1) (cellFor e f n (cells step c) + cells step c)

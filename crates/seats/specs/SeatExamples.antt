@@ -16,16 +16,16 @@ none-lower = 0 ∷ 0 ∷ 0 ∷ 0 ∷ []
 spoiled : List ℕ
 spoiled = 255 ∷ 254 ∷ 253 ∷ 252 ∷ []
 
--- ---- ends: blocks of classes 0, 1, 2 and 5 have 5, 6, 7 and 13 cells
+-- ---- ends: with step code 0 blocks of classes 0, 1, 2 and 5 have 5, 6, 7 and 13 cells
 
 -- class 0 is empty, so the end stays 0; zone 1 ends at 6, zone 2 at 13, which zones 3 and 4 leave; zone 5 ends at 46
-ends : (endFrom 1 (home none-lower) 0 0 ≡ 0) × (endFrom 2 (home none-lower) 0 0 ≡ 6) × (endFrom 3 (home none-lower) 0 0 ≡ 13)
-    × (endFrom 5 (home none-lower) 0 0 ≡ 13) × (endFrom 30 (home none-lower) 0 0 ≡ 46)
+ends : (endFrom 0 1 (home none-lower) 0 0 ≡ 0) × (endFrom 0 2 (home none-lower) 0 0 ≡ 6) × (endFrom 0 3 (home none-lower) 0 0 ≡ 13)
+    × (endFrom 0 5 (home none-lower) 0 0 ≡ 13) × (endFrom 0 30 (home none-lower) 0 0 ≡ 46)
 unfolding home none-lower endFrom get16 cells
 ends = (refl, refl, refl, refl, refl)
 
 -- from class 1 up the entry of class 0 is not read
-ends-unseen : (endFrom 0 (home spoiled) 1 0 ≡ 0) × (endFrom 4 (home spoiled) 1 0 ≡ 13)
+ends-unseen : (endFrom 0 0 (home spoiled) 1 0 ≡ 0) × (endFrom 0 4 (home spoiled) 1 0 ≡ 13)
 unfolding home spoiled endFrom get16 cells
 ends-unseen = (refl, refl)
 

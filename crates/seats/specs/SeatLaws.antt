@@ -30,19 +30,19 @@ first-some n f p z = rw (ne-eqb n 0 z)
 -- ---- the classes are passed one by one
 
 -- the end carried on from class d is the one carried on from class c
-pub record Passing (h : List ℕ) (c e k d end : ℕ) : Type 0 where
+pub record Passing (step : ℕ) (h : List ℕ) (c e k d end : ℕ) : Type 0 where
   pub class : d ≤ k
-  pub same : endFrom (k - d) h d end ≡ endFrom (k - c) h c e
+  pub same : endFrom step (k - d) h d end ≡ endFrom step (k - c) h c e
 
-pub pass-next : (h : List ℕ) (c e k d end end' : ℕ) → Passing h c e k d end → d < k → end' ≡ endAt h d end → Passing h c e k (d + 1) end'
+pub pass-next : (step : ℕ) (h : List ℕ) (c e k d end end' : ℕ) → Passing step h c e k d end → d < k → end' ≡ endAt step h d end → Passing step h c e k (d + 1) end'
 unfolding endFrom
-pass-next h c e k d end end' p g q =
+pass-next step h c e k d end end' p g q =
     let s : suc (k - suc d) ≡ k - d = omega arith in
-    record { class = omega arith; same = rw (add-one, q) (ap (λ (m : ℕ). endFrom m h d end) s ∙ p .same) }
+    record { class = omega arith; same = rw (add-one, q) (ap (λ (m : ℕ). endFrom step m h d end) s ∙ p .same) }
 
-pub pass-done : (h : List ℕ) (c e k d end : ℕ) → Passing h c e k d end → k ≤ d → end ≡ endFrom (k - c) h c e
+pub pass-done : (step : ℕ) (h : List ℕ) (c e k d end : ℕ) → Passing step h c e k d end → k ≤ d → end ≡ endFrom step (k - c) h c e
 unfolding endFrom
-pass-done h c e k d end p g = let s : k - d ≡ 0 = omega (arith, p .class) in ap (λ (m : ℕ). endFrom m h d end) (sym s) ∙ p .same
+pass-done step h c e k d end p g = let s : k - d ≡ 0 = omega (arith, p .class) in ap (λ (m : ℕ). endFrom step m h d end) (sym s) ∙ p .same
 
 -- the next nonempty zone from class d on is that from class c on
 pub record Seeking (h : List ℕ) (c d : ℕ) : Type 0 where

@@ -89,26 +89,26 @@ untouched-zone lo h c f n g =
       heads = λ p k. get32-else h (zoneEntryAt c) v (cellAt p) (inl (omega arith));
     }
 
-untouched-moved : (lo : ℕ) (h : List ℕ) (c p q : ℕ) → Movable h p → lo ≤ p → lo ≤ q → Untouched lo h (moved h c p q)
+untouched-moved : (step lo : ℕ) (h : List ℕ) (c p q : ℕ) → Movable h p → lo ≤ p → lo ≤ q → Untouched lo h (moved step h c p q)
 unfolding moved carried
-untouched-moved lo h c p q m a b =
-    let z : List ℕ = over h (cellAt p) (replicate (8 * cells c) 0) in
-    let l : List ℕ = over z (cellAt q) (part h (cellAt p) (8 * cells c)) in
+untouched-moved step lo h c p q m a b =
+    let z : List ℕ = over h (cellAt p) (replicate (8 * cells step c) 0) in
+    let l : List ℕ = over z (cellAt q) (part h (cellAt p) (8 * cells step c)) in
     untouched-both lo lo h l (celled l (indexOf h (get32 h (cellAt p))) q) (omega arith)
-    (untouched-both lo lo h z l (omega arith) (untouched-area lo h p (replicate (8 * cells c) 0) a) (untouched-area lo z q (part h (cellAt p) (8 * cells c)) b))
+    (untouched-both lo lo h z l (omega arith) (untouched-area lo h p (replicate (8 * cells step c) 0) a) (untouched-area lo z q (part h (cellAt p) (8 * cells step c)) b))
     (untouched-cell lo l (indexOf h (get32 h (cellAt p))) q (omega (arith, m .found, m .ordered .few)))
 
-pub untouched-displaced : (lo : ℕ) (h : List ℕ) (c f n q : ℕ) → c < 30 → Movable h f → lo ≤ f → lo ≤ q → Untouched lo h (displaced h c f n q)
+pub untouched-displaced : (step lo : ℕ) (h : List ℕ) (c f n q : ℕ) → c < 30 → Movable h f → lo ≤ f → lo ≤ q → Untouched lo h (displaced step h c f n q)
 unfolding displaced
-untouched-displaced lo h c f n q g m a b =
-    untouched-both lo lo h (moved h c f q) (displaced h c f n q) (omega arith) (untouched-moved lo h c f q m a b)
-    (untouched-zone lo (moved h c f q) c (firstWith n (f + cells c) q) (n + 1) g)
+untouched-displaced step lo h c f n q g m a b =
+    untouched-both lo lo h (moved step h c f q) (displaced step h c f n q) (omega arith) (untouched-moved step lo h c f q m a b)
+    (untouched-zone lo (moved step h c f q) c (firstWith n (f + cells step c) q) (n + 1) g)
 
-pub length-displaced : (h : List ℕ) (c f n q : ℕ) → length (displaced h c f n q) ≡ length h
+pub length-displaced : (step : ℕ) (h : List ℕ) (c f n q : ℕ) → length (displaced step h c f n q) ≡ length h
 unfolding displaced moved carried celled zoned
-length-displaced h c f n q =
-    let z : List ℕ = over h (cellAt f) (replicate (8 * cells c) 0) in
-    let l : List ℕ = over z (cellAt q) (part h (cellAt f) (8 * cells c)) in
+length-displaced step h c f n q =
+    let z : List ℕ = over h (cellAt f) (replicate (8 * cells step c) 0) in
+    let l : List ℕ = over z (cellAt q) (part h (cellAt f) (8 * cells step c)) in
     let i : ℕ = wordAt (indexOf h (get32 h (cellAt f))) + 4 in
-    length-over (over l i (bytes16 q)) (zoneEntryAt c) (bytes16 (firstWith n (f + cells c) q) ++ bytes16 (n + 1)) ∙ length-over l i (bytes16 q)
-    ∙ length-over z (cellAt q) (part h (cellAt f) (8 * cells c)) ∙ length-over h (cellAt f) (replicate (8 * cells c) 0)
+    length-over (over l i (bytes16 q)) (zoneEntryAt c) (bytes16 (firstWith n (f + cells step c) q) ++ bytes16 (n + 1)) ∙ length-over l i (bytes16 q)
+    ∙ length-over z (cellAt q) (part h (cellAt f) (8 * cells step c)) ∙ length-over h (cellAt f) (replicate (8 * cells step c) 0)

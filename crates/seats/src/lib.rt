@@ -1,9 +1,9 @@
 // A cell for a block, by the same rule for a new block and for one that it displaces.
 use home::AREA;
-use layout::classes::cells;
 use home::lookup::zone_count;
 use home::lookup::zone_end;
 use home::lookup::zone_first;
+use layout::classes::cells;
 use moves::move_block;
 use moves::set_zone;
 ghost use mathlib.Core.Path.{_≡_};
@@ -36,14 +36,14 @@ pub fn first_with(n: usize, f: usize, p: usize) -> usize
 }
 
 // Where the zones below class k end, if those below class c end at e: the last nonempty end is carried along.
-pub fn end_from(home: &[u8], c: usize, e: usize, k: usize) -> usize
+pub fn end_from(home: &[u8], step: usize, c: usize, e: usize, k: usize) -> usize
     requires { ⌜ (c ≤ k) × (k ≤ 30) × (1664 ≤ length (now home)) ⌝ }
-    ensures { λ r. ⌜ r ≡ endFrom (k - c) (now (home .entry)) c e ⌝ }
+    ensures { λ r. ⌜ r ≡ endFrom step (k - c) (now (home .entry)) c e ⌝ }
 {
     let mut d = c;
     let mut end = e;
     while d < k {
-        end = zone_end(home, d, end);
+        end = zone_end(home, step, d, end);
         d += 1;
     }
     end
@@ -73,12 +73,12 @@ fn room_if(room: bool, p: usize) -> Room
 
 // The cell of a block of class c, in a zone with n others from cell f on, where the lower zones end at e. If the next higher nonempty zone
 // is in the way, its first block is placed by the same rule, and moves once its cell is known. Nothing is stored where there is no room.
-pub fn seat(home: &mut [u8], c: usize, f: usize, n: usize, e: usize) -> Room
-    requires { ⌜ Seatable (now home) c f n e ⌝ }
-    ensures { λ r. ⌜ r ≡ roomOf (isSome (seated (now (home .entry)) c f n e)) (cellFor e f n (sizeOf c)) ⌝ }
-    ensures { λ _. ⌜ now (home .exit) ≡ Option·getD (seated (now (home .entry)) c f n e) (now (home .entry)) ⌝ }
+pub fn seat(home: &mut [u8], step: usize, c: usize, f: usize, n: usize, e: usize) -> Room
+    requires { ⌜ Seatable step (now home) c f n e ⌝ }
+    ensures { λ r. ⌜ r ≡ roomOf (isSome (seated step (now (home .entry)) c f n e)) (cellFor e f n (sizeOf step c)) ⌝ }
+    ensures { λ _. ⌜ now (home .exit) ≡ Option·getD (seated step (now (home .entry)) c f n e) (now (home .entry)) ⌝ }
 {
-    let k = cells(c);
+    let k = cells(step, c);
     let p = cell_for(e, f, n, k);
     let end = p + k;
     let d = next_zone(home, c + 1);
@@ -89,12 +89,12 @@ pub fn seat(home: &mut [u8], c: usize, f: usize, n: usize, e: usize) -> Room
     if end <= first {
         return Room::At(p);
     }
-    let next = first + cells(d);
+    let next = first + cells(step, d);
     let others = zone_count(home, d) - 1;
-    let Room::At(q) = seat(home, d, next, others, end) else {
+    let Room::At(q) = seat(home, step, d, next, others, end) else {
         return Room::Nowhere;
     };
-    move_block(home, d, first, q);
+    move_block(home, step, d, first, q);
     set_zone(home, d, first_with(others, next, q), others + 1);
     Room::At(p)
 }

@@ -178,7 +178,7 @@ fn edit(space: &mut [u8], line: &[u8]) -> Answer {
 fn image_call(image: &mut [u8], space: &[u8], line: &[u8]) -> Outcome {
     let op = byte(line, 0);
     if op == b'f' {
-        index::format(image, tag(line) as usize, second(line) as usize, 1000000)
+        index::format(image, tag(line) as usize, second(line) as usize, 0, 1000000)
     } else if op == b'c' {
         index::commit(image, space, tag(line) as usize)
     } else {

@@ -1,9 +1,9 @@
 -- Runs of bytes and the numbers in them. All numbers are unsigned, most significant byte first.
-use Prim.Native.Nat.{ℕ, zero, suc, _+_, _*_, _/_, _%_, _<_}
+use Prim.Native.Nat.{ℕ, zero, suc, _+_, _-_, _*_, _/_, _%_, _<_}
 use mathlib.Core.Bool.{Bool, true, false, _&&_}
 use mathlib.Core.Option.{Option, none, some}
-use mathlib.Core.List.{List, [], _∷_}
-use lib.ListN.{take, drop, getD}
+use mathlib.Core.List.{List, [], _∷_, _++_}
+use lib.ListN.{take, drop, getD, replicate}
 use lib.Dec.{eqb}
 
 abbrev pub pick {ℓ} : {A : Type ℓ} → Bool → A → A → A
@@ -22,6 +22,10 @@ Bytes l = (i : ℕ) → getD l i 0 < 256
 -- the n bytes from offset `at` on
 unfoldable pub part : List ℕ → ℕ → ℕ → List ℕ
 part l at n = take n (drop at l)
+
+-- n bytes that are zero but for v at offset p
+unfoldable pub zerosBut : ℕ → ℕ → ℕ → List ℕ
+zerosBut p v n = replicate p 0 ++ (v ∷ replicate (n - suc p) 0)
 
 -- l with the bytes bs from offset `at` on, as far as l goes
 unfoldable pub over : List ℕ → ℕ → List ℕ → List ℕ

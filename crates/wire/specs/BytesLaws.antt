@@ -4,15 +4,15 @@ use mathlib.Core.Logic.{_⊎_, inl, inr}
 use mathlib.Core.Bool.{Bool, true, false, _&&_, and-assoc}
 use Prim.Native.Nat.{ℕ, zero, suc, _+_, _-_, _*_, _/_, _%_, _≤_, _<_, min}
 use native.Mathlib.Omega.{arith}
-use native.Mathlib.Nat.{add-zero, sub-zero, zero-sub, suc-sub-suc, le-of-suc-le-suc, div-div-eq-div-mul, div-add-mod'}
+use native.Mathlib.Nat.{add-zero, le-of-suc-le-suc, div-div-eq-div-mul, div-add-mod'}
 use native.Mathlib.Numerals.{add-one}
 use mathlib.Core.List.{List, [], _∷_, _++_, append-assoc, append-nil}
-use lib.ListN.{length, take, drop, set, getD, replicate, length-take, length-drop, length-replicate, replicate-append-replicate, drop-of-length-le, take-append-drop}
+use lib.ListN.{length, take, drop, set, getD, replicate, length-append, length-take, length-drop, length-replicate, replicate-append-replicate, drop-of-length-le, take-append-drop}
 use lib.Seq.{getD-take, getD-drop, ext-getD, sets, sets-eq, drop-cons, drop-drop, take-add, take-suc, drop-at, length-take-le}
 use lib.Dec.{eqb}
 use lib.Bits.{bitOr, or-add-and, and-le-l, and-le-r}
 use borrow.Author.Tests.{eq-eqb, ne-eqb, eqb-true}
-use Rattle.wire.specs.Bytes.{part, over, get16, get32, bytes16, bytes32, equal, blank}
+use Rattle.wire.specs.Bytes.{zerosBut, part, over, get16, get32, bytes16, bytes32, equal, blank}
 use Rattle.wire.specs.Cases.{by-test, by-eq, by-within, both, never, and-true, and-false}
 
 -- ---- part
@@ -20,6 +20,10 @@ use Rattle.wire.specs.Cases.{by-test, by-eq, by-within, both, never, and
 pub length-part : (l : List ℕ) (at n : ℕ) → at + n ≤ length l → length (part l at n) ≡ n
 unfolding part
 length-part l at n g = simp (length-take, length-drop) (omega arith)
+
+pub length-zeros-but : (p v n : ℕ) → p < n → length (zerosBut p v n) ≡ n
+unfolding zerosBut
+length-zeros-but p v n g = simp (length-append, length-replicate) (omega arith)
 
 pub part-at : (l : List ℕ) (at n i : ℕ) → i < n → getD (part l at n) i 0 ≡ getD l (at + i) 0
 unfolding part
@@ -277,6 +281,11 @@ equal-is (x ∷ xs) (y ∷ ys) e =
     let a = both (eqb x y) (equal xs ys) e in
     ap₂ (λ (z : ℕ) (zs : List ℕ). z ∷ zs) (eqb-true x y (a .0)) (equal-is xs ys (a .1))
 
+pub blank-append : (xs ys : List ℕ) → blank (xs ++ ys) ≡ blank xs && blank ys
+unfolding blank
+blank-append [] ys = refl
+blank-append (x ∷ xs) ys = ap (λ (b : Bool). eqb x 0 && b) (blank-append xs ys) ∙ sym (and-assoc (eqb x 0) (blank xs) (blank ys))
+
 pub blank-zeros : (n : ℕ) → blank (replicate n 0) ≡ true
 unfolding blank
 blank-zeros zero = refl
@@ -384,10 +393,14 @@ take-replicate zero n b g = refl
 take-replicate (suc i) zero b g = absurd (omega arith)
 take-replicate (suc i) (suc n) b g = ap (_∷_ b) (take-replicate i n b (omega arith))
 
-pub drop-replicate : (i n b : ℕ) → drop i (replicate n b) ≡ replicate (n - i) b
-drop-replicate zero n b = rw sub-zero
-drop-replicate (suc i) zero b = rw zero-sub
-drop-replicate (suc i) (suc n) b = rw suc-sub-suc (drop-replicate i n b)
+pub drop-zeros-but : (k p v n : ℕ) → drop k (zerosBut (k + p) v n) ≡ zerosBut p v (n - k)
+unfolding zerosBut
+drop-zeros-but k p v n =
+    let e : n - suc (k + p) ≡ n - k - suc p = omega arith in
+    ap (λ (l : List ℕ). drop k (l ++ (v ∷ replicate (n - suc (k + p)) 0))) (sym (replicate-append-replicate k p 0))
+    ∙ ap (drop k) (append-assoc (replicate k 0) (replicate p 0) (v ∷ replicate (n - suc (k + p)) 0))
+    ∙ drop-at (replicate k 0) (replicate p 0 ++ (v ∷ replicate (n - suc (k + p)) 0)) k (length-replicate k 0)
+    ∙ ap (λ (m : ℕ). replicate p 0 ++ (v ∷ replicate m 0)) e
 
 pub over-take : (l : List ℕ) (at : ℕ) (bs : List ℕ) (i : ℕ) → i < length bs → set (over l at (take i bs)) (at + i) (getD bs i 0) ≡ over l at (take (i + 1) bs)
 over-take l at bs i g =

@@ -1,7 +1,7 @@
 // Numbers and runs of bytes in slices. Numbers are unsigned, most significant byte first.
 ghost use mathlib.Core.Path.{_≡_};
 ghost use Prim.Native.Nat.{_+_, _≤_, _<_};
-ghost use lib.ListN.{length, replicate};
+ghost use lib.ListN.{length, getD, replicate};
 ghost use Rattle.wire.specs.Bytes.{get16 as number16, get32 as number32, bytes16 as digits16, bytes32 as digits32, part, over, equal as same, blank};
 
 fn wide16(x: u8) -> usize
@@ -14,6 +14,14 @@ fn wide32(x: u8) -> u32
     ensures { λ r. ⌜ (r ≡ x) × (r < 256) ⌝ }
 {
     x as u32
+}
+
+// The byte at an offset.
+pub fn get8(s: &[u8], at: usize) -> usize
+    requires { ⌜ at < length (now s) ⌝ }
+    ensures { λ r. ⌜ (r ≡ getD (now (s .entry)) at 0) × (r < 256) ⌝ }
+{
+    wide16(s[at])
 }
 
 // The number of 2 bytes at an offset.

@@ -12,9 +12,9 @@ use Rattle.layout.specs.Capacities.{cells, classOf}
 use Rattle.layout.specs.Zones.{Block, Zone, zone, blocks, hasTag}
 use Rattle.layout.specs.Perm.{Perm, In, Pairs, after}
 use Rattle.layout.specs.PermLaws.{prefl, psym, pall, pin, all-in, in-map, map-in}
-use Rattle.layout.specs.Layout.{Sits, Loose}
+use Rattle.home.specs.Layout.{Sits, Loose}
 use Rattle.layout.specs.FindLaws.{by-tag, has-here, has-skip}
-use Rattle.home.specs.Bytes.{Spot, row, spots, Entry, entryOf, blockBytes, cellAt, countAt, tagAt, entryCell, encode, decode}
+use Rattle.home.specs.Bytes.{stepOf, Spot, row, spots, Entry, entryOf, blockBytes, cellAt, countAt, tagAt, entryCell, encode, decode}
 use Rattle.home.specs.AreaLaws.{Good, spots-sit, spots-good}
 use Rattle.home.specs.HomeLaws.{ReadsAt, block-tag, block-count, block-starts}
 use Rattle.home.specs.DictionaryLaws.{Else, spots-blocks, dictionary-perm}
@@ -27,52 +27,52 @@ use Rattle.home.specs.LookupLoopLaws.{sound-ordered, slot-at}
 use Rattle.home.specs.EncodeLaws.{length-loose, reads-loose}
 use Rattle.moves.specs.SpotLaws.{spot, gone-before}
 use Rattle.moves.specs.HomeLaws.{others}
-use Rattle.moves.specs.StepLaws.{in-zone}
+use Rattle.moves.specs.LayoutMoves.{in-zone}
 use Rattle.zones.specs.Known.{Located, Known}
 use Rattle.zones.specs.KnownLaws.{located}
 
 -- ---- a block that lies in home's bytes
 
-pub record Lying (h : List ℕ) (c p : ℕ) (b : Block) : Type 0 where
-  pub sits : Sits c b
-  pub inside : cellAt p + 8 * cells c ≤ length h
-  pub bytes : part h (cellAt p) (8 * cells c) ≡ blockBytes c b
+pub record Lying (step : ℕ) (h : List ℕ) (c p : ℕ) (b : Block) : Type 0 where
+  pub sits : Sits step c b
+  pub inside : cellAt p + 8 * cells step c ≤ length h
+  pub bytes : part h (cellAt p) (8 * cells step c) ≡ blockBytes step c b
   pub tag : get32 h (cellAt p) ≡ b .tag
   pub count : countAt h p ≡ length (b .list)
 
-module _ (R : ℕ) (zs : List Zone) (v : Loose R zs) where
-  pub lying : (s : Spot) (ss : List Spot) → Perm (spots 0 zs) (s ∷ ss) → Lying (encode R zs) (s .class) (s .cell) (s .block)
+module _ (step R : ℕ) (zs : List Zone) (v : Loose step R zs) where
+  pub lying : (s : Spot) (ss : List Spot) → Perm (spots step 0 zs) (s ∷ ss) → Lying step (encode step R zs) (s .class) (s .cell) (s .block)
   lying s ss p =
-      let sit : Sits (s .class) (s .block) = all-head (pall (λ (x : Spot). Sits (x .class) (x .block)) p (spots-sit (8 * R) 0 0 zs (v .fit))) in
-      let good : Good (8 * R) s = all-head (pall (Good (8 * R)) p (spots-good (8 * R) 0 0 zs (v .fit))) in
-      let rest : List ℕ = drop (cellAt (s .cell) + 8 * cells (s .class)) (encode R zs) in
-      let reads : ReadsAt (encode R zs) s = all-head (pall (ReadsAt (encode R zs)) p (reads-loose R zs v)) in
+      let sit : Sits step (s .class) (s .block) = all-head (pall (λ (x : Spot). Sits step (x .class) (x .block)) p (spots-sit step (8 * R) 0 0 zs (v .fit))) in
+      let good : Good step (8 * R) s = all-head (pall (Good step (8 * R)) p (spots-good step (8 * R) 0 0 zs (v .fit))) in
+      let rest : List ℕ = drop (cellAt (s .cell) + 8 * cells step (s .class)) (encode step R zs) in
+      let reads : ReadsAt step (encode step R zs) s = all-head (pall (ReadsAt step (encode step R zs)) p (reads-loose step R zs v)) in
       record {
         sits = sit;
-        inside = omega (arith, good .inside, length-loose R zs v);
+        inside = omega (arith, good .inside, length-loose step R zs v);
         bytes = reads;
-        tag = block-tag (encode R zs) (s .cell) (s .class) (s .block) rest (block-starts (encode R zs) s reads) sit;
-        count = block-count (encode R zs) (s .cell) (s .class) (s .block) rest (block-starts (encode R zs) s reads) sit;
+        tag = block-tag step (encode step R zs) (s .cell) (s .class) (s .block) rest (block-starts step (encode step R zs) s reads) sit;
+        count = block-count step (encode step R zs) (s .cell) (s .class) (s .block) rest (block-starts step (encode step R zs) s reads) sit;
       }
 
-spots-of : (R : ℕ) (small : R ≤ 1024) (zs ls : List Zone) (f : ℕ) (pre : List Block) (b : Block) (post : List Block) (hs : List Zone) (c p : ℕ)
-    → zs ≡ ls ++ zone f (pre ++ b ∷ post) ∷ hs → length ls ≡ c → f + length pre * cells c ≡ p
-    → Perm (spots 0 zs) (spot c p b ∷ (spots 0 ls ++ ((row c f pre ++ row c (p + cells c) post) ++ spots (suc c) hs)))
-spots-of R small zs ls f pre b post hs c p is class cell =
-    rw (is, ← cell, ← class) (in-zone R small ls f (pre ++ b ∷ post) hs (spot (length ls) (f + length pre * cells (length ls)) b)
-    (row (length ls) f pre ++ row (length ls) (f + length pre * cells (length ls) + cells (length ls)) post) (gone-before (length ls) f pre b post))
+spots-of : (step R : ℕ) (small : R ≤ 1024) (zs ls : List Zone) (f : ℕ) (pre : List Block) (b : Block) (post : List Block) (hs : List Zone) (c p : ℕ)
+    → zs ≡ ls ++ zone f (pre ++ b ∷ post) ∷ hs → length ls ≡ c → f + length pre * cells step c ≡ p
+    → Perm (spots step 0 zs) (spot c p b ∷ (spots step 0 ls ++ ((row step c f pre ++ row step c (p + cells step c) post) ++ spots step (suc c) hs)))
+spots-of step R small zs ls f pre b post hs c p is class cell =
+    rw (is, ← cell, ← class) (in-zone step R small ls f (pre ++ b ∷ post) hs (spot (length ls) (f + length pre * cells step (length ls)) b)
+    (row step (length ls) f pre ++ row step (length ls) (f + length pre * cells step (length ls) + cells step (length ls)) post) (gone-before step (length ls) f pre b post))
 
 -- a tag's block, and the others
-module _ (R : ℕ) (h : List ℕ) (zs : List Zone) (t c p : ℕ) (k : Known R h zs t c p) where
+module _ (step R : ℕ) (h : List ℕ) (zs : List Zone) (t c p : ℕ) (k : Known step R h zs t c p) where
   pub others-of : List Spot
-  others-of = spots 0 (k .found .lower) ++ ((row c (k .found .first) (k .found .before) ++ row c (p + cells c) (k .found .behind)) ++ spots (suc c) (k .found .higher))
+  others-of = spots step 0 (k .found .lower) ++ ((row step c (k .found .first) (k .found .before) ++ row step c (p + cells step c) (k .found .behind)) ++ spots step (suc c) (k .found .higher))
 
-  pub known-spots : Perm (spots 0 zs) (spot c p (k .found .block) ∷ others-of)
+  pub known-spots : Perm (spots step 0 zs) (spot c p (k .found .block) ∷ others-of)
   unfolding others-of
-  known-spots = spots-of R (k .pages) zs (k .found .lower) (k .found .first) (k .found .before) (k .found .block) (k .found .behind) (k .found .higher) c p (k .found .is) (k .class) (k .cell)
+  known-spots = spots-of step R (k .pages) zs (k .found .lower) (k .found .first) (k .found .before) (k .found .block) (k .found .behind) (k .found .higher) c p (k .found .is) (k .class) (k .cell)
 
-  pub known-lying : Lying h c p (k .found .block)
-  known-lying = subst (λ (l : List ℕ). Lying l c p (k .found .block)) (sym (k .bytes)) (lying R zs (k .loose) (spot c p (k .found .block)) others-of known-spots)
+  pub known-lying : Lying step h c p (k .found .block)
+  known-lying = subst (λ (l : List ℕ). Lying step l c p (k .found .block)) (sym (k .bytes)) (lying step R zs (k .loose) (spot c p (k .found .block)) others-of known-spots)
 
 -- ---- found by the dictionary
 
@@ -96,7 +96,7 @@ module _ (h : List ℕ) (s : sound h ≡ true) where
   abbrev zs : List Zone
   zs = decode h
 
-  is : h ≡ encode R zs
+  is : h ≡ encode (stepOf h) R zs
   is = sym (encode-decode h s)
 
   -- the block to which an entry leads is the first one with its tag
@@ -107,26 +107,26 @@ module _ (h : List ℕ) (s : sound h ≡ true) where
     abbrev d : Entry
     d = record { tag = tagAt h i; cell = p }
 
-    led : In d (map entryOf (spots 0 zs))
-    led = pin d (dictionary-perm zs) (subst (In d) (sound-words h s) (entry-in h 0 (get16 h 0) i (omega arith) (omega (arith, slot-at h t i (sound-ordered h s) e .0))))
+    led : In d (map entryOf (spots (stepOf h) 0 zs))
+    led = pin d (dictionary-perm (stepOf h) zs) (subst (In d) (sound-words h s) (entry-in h 0 (get16 h 0) i (omega arith) (omega (arith, slot-at h t i (sound-ordered h s) e .0))))
 
     tagged : tagAt h i ≡ t
     tagged = slot-at h t i (sound-ordered h s) e .1
 
     pub slot-has : hasTag t (blocks zs) ≡ true
     slot-has =
-        let m = in-map entryOf d (spots 0 zs) led in
-        in-has t (m .0 .block) (blocks zs) (subst (In (m .0 .block)) (spots-blocks 0 zs) (map-in (λ (x : Spot). x .block) (m .0) (spots 0 zs) (m .1)))
+        let m = in-map entryOf d (spots (stepOf h) 0 zs) led in
+        in-has t (m .0 .block) (blocks zs) (subst (In (m .0 .block)) (spots-blocks (stepOf h) 0 zs) (map-in (λ (x : Spot). x .block) (m .0) (spots (stepOf h) 0 zs) (m .1)))
         (ap (λ (x : Entry). x .tag) (sym (m .2)) ∙ tagged)
 
-    known-at : (k : Located t zs) → Known R h zs t (length (k .lower)) p
+    known-at : (k : Located t zs) → Known (stepOf h) R h zs t (length (k .lower)) p
     known-at k =
         let c : ℕ = length (k .lower) in
-        let q : ℕ = k .first + length (k .before) * cells c in
+        let q : ℕ = k .first + length (k .before) * cells (stepOf h) c in
         let sp : Spot = spot c q (k .block) in
-        let perm = spots-of R (sound-small h s) zs (k .lower) (k .first) (k .before) (k .block) (k .behind) (k .higher) c q (k .is) refl refl in
-        let same : d ≡ entryOf sp = same-entry (map entryOf (spots 0 zs)) d (entryOf sp) (others R zs (sound-loose h s) (spots 0 zs) (prefl (spots 0 zs)))
-        led (map-in entryOf sp (spots 0 zs) (pin sp (psym perm) (inl refl))) (tagged ∙ sym (k .tag)) in
+        let perm = spots-of (stepOf h) R (sound-small h s) zs (k .lower) (k .first) (k .before) (k .block) (k .behind) (k .higher) c q (k .is) refl refl in
+        let same : d ≡ entryOf sp = same-entry (map entryOf (spots (stepOf h) 0 zs)) d (entryOf sp) (others (stepOf h) R zs (sound-loose h s) (spots (stepOf h) 0 zs) (prefl (spots (stepOf h) 0 zs)))
+        led (map-in entryOf sp (spots (stepOf h) 0 zs) (pin sp (psym perm) (inl refl))) (tagged ∙ sym (k .tag)) in
         record {
           pages = sound-small h s;
           bytes = is;
@@ -136,9 +136,9 @@ module _ (h : List ℕ) (s : sound h ≡ true) where
           cell = ap (λ (x : Entry). x .cell) (sym same);
         }
 
-    pub slot-known : Known R h zs t (classOf (countAt h p)) p
+    pub slot-known : Known (stepOf h) R h zs t (classOf (stepOf h) (countAt h p)) p
     slot-known =
         let k : Located t zs = located t zs slot-has in
-        let w : Known R h zs t (length (k .lower)) p = known-at k in
-        let l : Lying h (length (k .lower)) p (w .found .block) = known-lying R h zs t (length (k .lower)) p w in
-        subst (λ (c : ℕ). Known R h zs t c p) (sym (ap classOf (l .count) ∙ l .sits .class)) w
+        let w : Known (stepOf h) R h zs t (length (k .lower)) p = known-at k in
+        let l : Lying (stepOf h) h (length (k .lower)) p (w .found .block) = known-lying (stepOf h) R h zs t (length (k .lower)) p w in
+        subst (λ (c : ℕ). Known (stepOf h) R h zs t c p) (sym (ap (classOf (stepOf h)) (l .count) ∙ l .sits .class)) w

@@ -23,7 +23,7 @@ use Rattle.zones.specs.Place.{wholeBlock, withBlock, placedFrom, From}
 
 -- ---- other bytes in the entries below c
 
-module _ (low : List ℕ) (c : ℕ) (long : length low ≡ 4 * c) (under : c ≤ 30) where
+module _ (step : ℕ) (low : List ℕ) (c : ℕ) (long : length low ≡ 4 * c) (under : c ≤ 30) where
   mask-entered : (h : List ℕ) (t p : ℕ) → entered (masked low h) t p ≡ masked low (entered h t p)
   unfolding entered counted
   mask-entered h t p =
@@ -39,28 +39,28 @@ module _ (low : List ℕ) (c : ℕ) (long : length low ≡ 4 * c) (under : c ≤
       ∙ ap (λ (x : List ℕ). over x 0 (bytes16 (n + 1))) (mask-over low c long under (over h (wordAt i + 6) v) (wordAt i) w (omega arith))
       ∙ over-comm (over (over h (wordAt i + 6) v) (wordAt i) w) 0 (bytes16 (n + 1)) 2 low (inl (omega (arith, length-bytes16 (n + 1))))
 
-  mask-block : (h : List ℕ) (k p t : ℕ) (bs : List ℕ) → c ≤ k → withBlock (masked low h) k p t bs ≡ masked low (withBlock h k p t bs)
+  mask-block : (h : List ℕ) (k p t : ℕ) (bs : List ℕ) → c ≤ k → withBlock step (masked low h) k p t bs ≡ masked low (withBlock step h k p t bs)
   unfolding withBlock
   mask-block h k p t bs g =
-      let b : List ℕ = over h (cellAt p) (wholeBlock k t bs) in
+      let b : List ℕ = over h (cellAt p) (wholeBlock step k t bs) in
       let F : ℕ → ℕ → List ℕ → List ℕ = λ (f n : ℕ) (x : List ℕ). zoned (entered x t p) k (firstWith n f p) (n + 1) in
-      ap₂ (λ (f n : ℕ). F f n (over (masked low h) (cellAt p) (wholeBlock k t bs))) (mask-first low c long under h k g) (mask-many low c long under h k g)
-      ∙ ap (F (firstAt h k) (manyAt h k)) (mask-over low c long under h (cellAt p) (wholeBlock k t bs) (omega arith))
+      ap₂ (λ (f n : ℕ). F f n (over (masked low h) (cellAt p) (wholeBlock step k t bs))) (mask-first low c long under h k g) (mask-many low c long under h k g)
+      ∙ ap (F (firstAt h k) (manyAt h k)) (mask-over low c long under h (cellAt p) (wholeBlock step k t bs) (omega arith))
       ∙ ap (λ (x : List ℕ). zoned x k (firstWith (manyAt h k) (firstAt h k) p) (manyAt h k + 1)) (mask-entered b t p)
       ∙ mask-zoned low c long under (entered b t p) k (firstWith (manyAt h k) (firstAt h k) p) (manyAt h k + 1) g
 
   -- they are not seen, and stay
-  from-masked : (h : List ℕ) (e t : ℕ) (bs : List ℕ) → c ≤ classOf (length bs / 8) → placedFrom (masked low h) c e t bs ≡ Option·map (masked low) (placedFrom h c e t bs)
+  from-masked : (h : List ℕ) (e t : ℕ) (bs : List ℕ) → c ≤ classOf step (length bs / 8) → placedFrom step (masked low h) c e t bs ≡ Option·map (masked low) (placedFrom step h c e t bs)
   unfolding placedFrom endAt cellFor
   from-masked h e t bs g =
-      let k : ℕ = classOf (length bs / 8) in
-      let end : ℕ = endFrom (k - c) h c e in
-      let p : ℕ = endAt h k end in
-      let F : ℕ → Option (List ℕ) = λ (q : ℕ). Option·map (λ (x : List ℕ). withBlock x k q t bs) (raised (29 - k) (masked low h) (k + 1) (q + cells k)) in
-      ap (λ (d : ℕ). F (endAt (masked low h) k d)) (mask-ends low c long under (k - c) h c e (omega arith))
-      ∙ ap F (mask-end low c long under h k g end)
-      ∙ ap (Option·map (λ (x : List ℕ). withBlock x k p t bs)) (mask-raised low c long under (29 - k) h (k + 1) (p + cells k) (omega arith))
-      ∙ map-swap (λ (x : List ℕ). withBlock x k p t bs) (masked low) (raised (29 - k) h (k + 1) (p + cells k)) (λ x. mask-block x k p t bs g)
+      let k : ℕ = classOf step (length bs / 8) in
+      let end : ℕ = endFrom step (k - c) h c e in
+      let p : ℕ = endAt step h k end in
+      let F : ℕ → Option (List ℕ) = λ (q : ℕ). Option·map (λ (x : List ℕ). withBlock step x k q t bs) (raised step (29 - k) (masked low h) (k + 1) (q + cells step k)) in
+      ap (λ (d : ℕ). F (endAt step (masked low h) k d)) (mask-ends low c long under step (k - c) h c e (omega arith))
+      ∙ ap F (mask-end low c long under h k g step end)
+      ∙ ap (Option·map (λ (x : List ℕ). withBlock step x k p t bs)) (mask-raised low c long under step (29 - k) h (k + 1) (p + cells step k) (omega arith))
+      ∙ map-swap (λ (x : List ℕ). withBlock step x k p t bs) (masked low) (raised step (29 - k) h (k + 1) (p + cells step k)) (λ x. mask-block x k p t bs g)
 
 -- ---- two homes
 
@@ -105,17 +105,17 @@ module _ (c : ℕ) (h : List ℕ) (g : 2 + 4 * c ≤ length h) where
   masked-lower low n = ap (part (masked low h) 2) (sym n) ∙ part-over h 2 low (omega arith)
 
 -- what is asked of one home for placing from class c up holds of the other too
-pub from-alike : (c : ℕ) (h h' : List ℕ) (e : ℕ) (bs : List ℕ) → c ≤ 30 → Alike c h h' → From h c e bs → From h' c e bs
-from-alike c h h' e bs u a f =
+pub from-alike : (step c : ℕ) (h h' : List ℕ) (e : ℕ) (bs : List ℕ) → c ≤ 30 → Alike c h h' → From step h c e bs → From step h' c e bs
+from-alike step c h h' e bs u a f =
     let low : List ℕ = lower c h' in
     let n : length low ≡ 4 * c = length-lower c h' (omega (arith, a .long, f .ordered .long)) in
     let t : Untouched 0 h (masked low h) = mask-untouched low c n u 0 h in
-    subst (λ (x : List ℕ). From x c e bs) (sym (alike-masked c h (omega (arith, f .ordered .long)) h' a))
+    subst (λ (x : List ℕ). From step x c e bs) (sym (alike-masked c h (omega (arith, f .ordered .long)) h' a))
     (record {
       long = omega (arith, t .long, f .long);
       ordered = untouched-ordered 0 h (masked low h) t (f .ordered);
       few = omega (arith, t .count, f .few);
-      above = mask-stacked low c n u (30 - c) h c e (omega arith) (f .above);
+      above = mask-stacked low c n u step (30 - c) h c e (omega arith) (f .above);
       class = f .class;
       whole = f .whole;
       most = f .most;
@@ -130,33 +130,33 @@ length-entered h t p =
     length-over (over (over h (wordAt i + 6) v) (wordAt i) (bytes32 t ++ bytes16 p)) 0 (bytes16 (n + 1))
     ∙ length-over (over h (wordAt i + 6) v) (wordAt i) (bytes32 t ++ bytes16 p) ∙ length-over h (wordAt i + 6) v
 
-length-block : (h : List ℕ) (k p t : ℕ) (bs : List ℕ) → length (withBlock h k p t bs) ≡ length h
+length-block : (step : ℕ) (h : List ℕ) (k p t : ℕ) (bs : List ℕ) → length (withBlock step h k p t bs) ≡ length h
 unfolding withBlock zoned
-length-block h k p t bs =
-    let b : List ℕ = over h (cellAt p) (wholeBlock k t bs) in
-    length-over (entered b t p) (zoneEntryAt k) (bytes16 (firstWith (manyAt h k) (firstAt h k) p) ++ bytes16 (manyAt h k + 1)) ∙ length-entered b t p ∙ length-over h (cellAt p) (wholeBlock k t bs)
+length-block step h k p t bs =
+    let b : List ℕ = over h (cellAt p) (wholeBlock step k t bs) in
+    length-over (entered b t p) (zoneEntryAt k) (bytes16 (firstWith (manyAt h k) (firstAt h k) p) ++ bytes16 (manyAt h k + 1)) ∙ length-entered b t p ∙ length-over h (cellAt p) (wholeBlock step k t bs)
 
-placed-long : (h : List ℕ) (c e t : ℕ) (bs : List ℕ) → Holds (λ (x : List ℕ). length x ≡ length h) (placedFrom h c e t bs)
+placed-long : (step : ℕ) (h : List ℕ) (c e t : ℕ) (bs : List ℕ) → Holds (λ (x : List ℕ). length x ≡ length h) (placedFrom step h c e t bs)
 unfolding placedFrom
-placed-long h c e t bs =
-    let k : ℕ = classOf (length bs / 8) in
-    let end : ℕ = endFrom (k - c) h c e in
-    holds-under (λ (x : List ℕ). length x ≡ length h) (λ (x : List ℕ). length x ≡ length h) (λ (x : List ℕ). withBlock x k (endAt h k end) t bs) (seated h k (firstAt h k) (manyAt h k) end)
-    (λ x q. length-block x k (endAt h k end) t bs ∙ q) (raised-long h (29 - k) (k + 1) (cellFor end (firstAt h k) (manyAt h k) (cells k) + cells k))
+placed-long step h c e t bs =
+    let k : ℕ = classOf step (length bs / 8) in
+    let end : ℕ = endFrom step (k - c) h c e in
+    holds-under (λ (x : List ℕ). length x ≡ length h) (λ (x : List ℕ). length x ≡ length h) (λ (x : List ℕ). withBlock step x k (endAt step h k end) t bs) (seated step h k (firstAt h k) (manyAt h k) end)
+    (λ x q. length-block step x k (endAt step h k end) t bs ∙ q) (raised-long step h (29 - k) (k + 1) (cellFor end (firstAt h k) (manyAt h k) (cells step k) + cells step k))
 
 -- "placing from a class up, given that end, does and answers the same whatever the zone entries of lower classes hold"
-pub lower-unseen : (c : ℕ) (h h' : List ℕ) (e t : ℕ) (bs : List ℕ) → c ≤ 30 → c ≤ classOf (length bs / 8) → 1664 ≤ length h → Alike c h h'
-    → Agree c h h' (placedFrom h c e t bs) (placedFrom h' c e t bs)
-lower-unseen c h h' e t bs u g n a =
+pub lower-unseen : (step c : ℕ) (h h' : List ℕ) (e t : ℕ) (bs : List ℕ) → c ≤ 30 → c ≤ classOf step (length bs / 8) → 1664 ≤ length h → Alike c h h'
+    → Agree c h h' (placedFrom step h c e t bs) (placedFrom step h' c e t bs)
+lower-unseen step c h h' e t bs u g n a =
     let low : List ℕ = lower c h in
     let low' : List ℕ = lower c h' in
     let l : length low ≡ 4 * c = length-lower c h (omega arith) in
     let l' : length low' ≡ 4 * c = length-lower c h' (omega (arith, a .long)) in
-    let own : placedFrom h c e t bs ≡ Option·map (masked low) (placedFrom h c e t bs) =
-    ap (λ (x : List ℕ). placedFrom x c e t bs) (alike-masked c h (omega arith) h (record { long = refl; same = λ i d. refl })) ∙ from-masked low c l u h e t bs g in
-    let other : placedFrom h' c e t bs ≡ Option·map (masked low') (placedFrom h c e t bs) =
-    ap (λ (x : List ℕ). placedFrom x c e t bs) (alike-masked c h (omega arith) h' a) ∙ from-masked low' c l' u h e t bs g in
-    subst (Agree c h h' (placedFrom h c e t bs)) (sym other) (by (placedFrom h c e t bs) own (placed-long h c e t bs) l l')
+    let own : placedFrom step h c e t bs ≡ Option·map (masked low) (placedFrom step h c e t bs) =
+    ap (λ (x : List ℕ). placedFrom step x c e t bs) (alike-masked c h (omega arith) h (record { long = refl; same = λ i d. refl })) ∙ from-masked step low c l u h e t bs g in
+    let other : placedFrom step h' c e t bs ≡ Option·map (masked low') (placedFrom step h c e t bs) =
+    ap (λ (x : List ℕ). placedFrom step x c e t bs) (alike-masked c h (omega arith) h' a) ∙ from-masked step low' c l' u h e t bs g in
+    subst (Agree c h h' (placedFrom step h c e t bs)) (sym other) (by (placedFrom step h c e t bs) own (placed-long step h c e t bs) l l')
   where
     by : (o : Option (List ℕ)) → o ≡ Option·map (masked (lower c h)) o → Holds (λ (x : List ℕ). length x ≡ length h) o → length (lower c h) ≡ 4 * c → length (lower c h') ≡ 4 * c
         → Agree c h h' o (Option·map (masked (lower c h')) o)

@@ -124,19 +124,19 @@ module _ (t : ℕ) (b : Block) (same : b .tag ≡ t) (behind : List Block) where
     lacking-there = by-zone (λ (l : List Block) (z : Zone). lacking t z ≡ zone f (removed t l)) (λ x xs. refl) ∙ ap (zone f) (removed-there before (lacks-has t before none))
 
     -- "the zone's last block fills its place. Then, for each higher nonempty zone"
-    pub takeOut-there : (c e k : ℕ) (ls hs : List Zone) → k ≡ c + length ls → hasTag t (blocks ls) ≡ false
-        → takeOut cells t c e (ls ++ zone f (before ++ b ∷ behind) ∷ hs)
-        ≡ ls ++ zone f (before ++ turned behind) ∷ close cells (suc k) (endOf cells k (endAfter c e ls) (zone f (before ++ turned behind))) hs
+    pub takeOut-there : (step c e k : ℕ) (ls hs : List Zone) → k ≡ c + length ls → hasTag t (blocks ls) ≡ false
+        → takeOut (cells step) t c e (ls ++ zone f (before ++ b ∷ behind) ∷ hs)
+        ≡ ls ++ zone f (before ++ turned behind) ∷ close (cells step) (suc k) (endOf (cells step) k (endAfter step c e ls) (zone f (before ++ turned behind))) hs
     unfolding takeOut blocks endAfter
-    takeOut-there c e k [] hs q n =
+    takeOut-there step c e k [] hs q n =
         let p : c ≡ k = omega arith in
-        by-zone (λ (l : List Block) (z : Zone). hasTag t l ≡ true → takeOut cells t c e (z ∷ hs) ≡ zone f (removed t l) ∷ close cells (suc c) (endOf cells c e (zone f (removed t l))) hs)
+        by-zone (λ (l : List Block) (z : Zone). hasTag t l ≡ true → takeOut (cells step) t c e (z ∷ hs) ≡ zone f (removed t l) ∷ close (cells step) (suc c) (endOf (cells step) c e (zone f (removed t l))) hs)
         (λ x xs h. rw h) has-there
-        ∙ ap₂ (λ (d : ℕ) (l : List Block). zone f l ∷ close cells (suc d) (endOf cells d e (zone f l)) hs) p (removed-there before (lacks-has t before none))
-    takeOut-there c e k (empty ∷ ls) hs q n = ap (λ (l : List Zone). empty ∷ l) (takeOut-there (suc c) e k ls hs (omega arith) n)
-    takeOut-there c e k (from g x xs ∷ ls) hs q n =
+        ∙ ap₂ (λ (d : ℕ) (l : List Block). zone f l ∷ close (cells step) (suc d) (endOf (cells step) d e (zone f l)) hs) p (removed-there before (lacks-has t before none))
+    takeOut-there step c e k (empty ∷ ls) hs q n = ap (λ (l : List Zone). empty ∷ l) (takeOut-there step (suc c) e k ls hs (omega arith) n)
+    takeOut-there step c e k (from g x xs ∷ ls) hs q n =
         let m = has-neither t (x ∷ xs) (blocks ls) n in
-        rw (m .0) (ap (λ (l : List Zone). from g x xs ∷ l) (takeOut-there (suc c) (g + suc (length xs) * cells c) k ls hs (omega arith) (m .1)))
+        rw (m .0) (ap (λ (l : List Zone). from g x xs ∷ l) (takeOut-there step (suc c) (g + suc (length xs) * cells step c) k ls hs (omega arith) (m .1)))
 
     -- another list in its place
     pub rewritten-there : (rs : List Record) (ls hs : List Zone) → hasTag t (blocks ls) ≡ false

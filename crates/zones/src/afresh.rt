@@ -2,10 +2,11 @@
 use crate::place::place;
 use crate::place::put_block;
 use home::AREA;
-use layout::classes::cells;
-use layout::classes::class_of;
+use home::lookup::step_of;
 use home::lookup::zone_count;
 use home::lookup::zone_first;
+use layout::classes::cells;
+use layout::classes::class_of;
 use moves::slide::slide;
 ghost use mathlib.Core.Path.{_≡_};
 ghost use Prim.Native.Nat.{_≤_};
@@ -13,38 +14,38 @@ ghost use lib.ListN.{take};
 ghost use Rattle.layout.specs.Capacities.{cells as sizeOf};
 ghost use Rattle.layout.specs.Zones.{total as totalOf};
 ghost use Rattle.wire.specs.Bytes.{isSome};
-ghost use Rattle.home.specs.Bytes.{encode, decode};
+ghost use Rattle.home.specs.Bytes.{stepOf, encode, decode};
 ghost use Rattle.home.specs.Sound.{pagesOf};
 ghost use Rattle.moves.specs.Stored.{Stored, settled};
 ghost use Rattle.zones.specs.Place.{Placeable};
 ghost use Rattle.zones.specs.Afresh.{lowerLaid, higherLaid, Layable, laidIn, settledIn};
 
 // The sizes of all blocks, in cells.
-pub fn total(home: &[u8]) -> usize
-    requires { ⌜ Stored (now home) ⌝ }
-    ensures { λ r. ⌜ (r ≡ totalOf sizeOf 0 (decode (now (home .entry)))) × (r ≤ 8192) ⌝ }
+pub fn total(home: &[u8], step: usize) -> usize
+    requires { ⌜ Stored step (now home) ⌝ }
+    ensures { λ r. ⌜ (r ≡ totalOf (sizeOf step) 0 (decode (now (home .entry)))) × (r ≤ 8192) ⌝ }
 {
     let mut sum = 0;
     let mut c = 0;
     while c < 30 {
-        sum += zone_count(home, c) * cells(c);
+        sum += zone_count(home, c) * cells(step, c);
         c += 1;
     }
     sum
 }
 
 // Lays the zones below class c out without gaps from cell 0 on, the lowest one first. Answers where they end.
-fn lay_below(home: &mut [u8], c: usize) -> usize
-    requires { ⌜ Stored (now home) × (c ≤ 30) ⌝ }
-    ensures { λ r. ⌜ (r ≡ totalOf sizeOf 0 (take c (decode (now (home .entry))))) × (r ≤ 8192) ⌝ }
-    ensures { λ _. ⌜ now (home .exit) ≡ encode (pagesOf (now (home .entry))) (lowerLaid (decode (now (home .entry))) c) ⌝ }
+fn lay_below(home: &mut [u8], step: usize, c: usize) -> usize
+    requires { ⌜ Stored step (now home) × (c ≤ 30) ⌝ }
+    ensures { λ r. ⌜ (r ≡ totalOf (sizeOf step) 0 (take c (decode (now (home .entry))))) × (r ≤ 8192) ⌝ }
+    ensures { λ _. ⌜ now (home .exit) ≡ encode step (pagesOf (now (home .entry))) (lowerLaid step (decode (now (home .entry))) c) ⌝ }
 {
     let mut d = 0;
     let mut e = 0;
     while d < c {
         let n = zone_count(home, d);
-        slide(home, d, e);
-        e += n * cells(d);
+        slide(home, step, d, e);
+        e += n * cells(step, d);
         d += 1;
     }
     e
@@ -52,20 +53,20 @@ fn lay_below(home: &mut [u8], c: usize) -> usize
 
 // Lays zones c and up out without gaps from cell e on. A zone that goes down moves before the higher ones, one that goes up after them, so
 // that each block moves at most once.
-fn lay_from(home: &mut [u8], c: usize, e: usize)
-    requires { ⌜ Layable (now home) c e ⌝ }
-    ensures { λ _. ⌜ now (home .exit) ≡ encode (pagesOf (now (home .entry))) (higherLaid (decode (now (home .entry))) c e) ⌝ }
+fn lay_from(home: &mut [u8], step: usize, c: usize, e: usize)
+    requires { ⌜ Layable step (now home) c e ⌝ }
+    ensures { λ _. ⌜ now (home .exit) ≡ encode step (pagesOf (now (home .entry))) (higherLaid step (decode (now (home .entry))) c e) ⌝ }
 {
     if c == 30 {
         return;
     }
-    let next = e + zone_count(home, c) * cells(c);
+    let next = e + zone_count(home, c) * cells(step, c);
     if e <= zone_first(home, c) {
-        slide(home, c, e);
-        lay_from(home, c + 1, next);
+        slide(home, step, c, e);
+        lay_from(home, step, c + 1, next);
     } else {
-        lay_from(home, c + 1, next);
-        slide(home, c, e);
+        lay_from(home, step, c + 1, next);
+        slide(home, step, c, e);
     }
 }
 
@@ -73,17 +74,18 @@ fn lay_from(home: &mut [u8], c: usize, e: usize)
 // more than the area.
 fn lay_afresh(home: &mut [u8], tag: u32, list: &[u8]) -> bool
     requires { ⌜ Placeable (now home) tag (now list) ⌝ }
-    ensures { λ r. ⌜ (r ≡ isSome (laidIn (now (home .entry)) tag (now (list .entry)))) × (now (home .exit) ≡ settled (pagesOf (now (home .entry))) (now (home .entry)) (laidIn (now (home .entry)) tag (now (list .entry)))) ⌝ }
+    ensures { λ r. ⌜ (r ≡ isSome (laidIn (now (home .entry)) tag (now (list .entry)))) × (now (home .exit) ≡ settled (stepOf (now (home .entry))) (pagesOf (now (home .entry))) (now (home .entry)) (laidIn (now (home .entry)) tag (now (list .entry)))) ⌝ }
 {
-    let c = class_of(list.len() / 8);
-    let k = cells(c);
+    let step = step_of(home);
+    let c = class_of(step, list.len() / 8);
+    let k = cells(step, c);
     let area = (home.len() - AREA) / 8;
-    if area < total(home) + k {
+    if area < total(home, step) + k {
         return false;
     }
-    let p = lay_below(home, c + 1);
-    lay_from(home, c + 1, p + k);
-    put_block(home, c, p, tag, list);
+    let p = lay_below(home, step, c + 1);
+    lay_from(home, step, c + 1, p + k);
+    put_block(home, step, c, p, tag, list);
     true
 }
 
@@ -91,7 +93,7 @@ fn lay_afresh(home: &mut [u8], tag: u32, list: &[u8]) -> bool
 // add up to more than the area.
 pub fn settle(home: &mut [u8], tag: u32, list: &[u8]) -> bool
     requires { ⌜ Placeable (now home) tag (now list) ⌝ }
-    ensures { λ r. ⌜ (r ≡ isSome (settledIn (now (home .entry)) tag (now (list .entry)))) × (now (home .exit) ≡ settled (pagesOf (now (home .entry))) (now (home .entry)) (settledIn (now (home .entry)) tag (now (list .entry)))) ⌝ }
+    ensures { λ r. ⌜ (r ≡ isSome (settledIn (now (home .entry)) tag (now (list .entry)))) × (now (home .exit) ≡ settled (stepOf (now (home .entry))) (pagesOf (now (home .entry))) (now (home .entry)) (settledIn (now (home .entry)) tag (now (list .entry)))) ⌝ }
 {
     if place(home, tag, list) {
         return true;

@@ -5,6 +5,8 @@ use native.Mathlib.Omega.{arith}
 use borrow.Author.Tests.{not-true, not-false}
 use Rattle.layout.specs.Capacities.{classOf}
 use Rattle.layout.specs.CapacitiesLaws.{class-below, class-stays, class-leaves}
+use Rattle.home.specs.Bytes.{stepOf}
+use Rattle.home.specs.SoundLaws.{sound-long}
 use Rattle.lists.specs.ListedLaws.{listed-most}
 use Rattle.lists.specs.RecordLaws.{missing-under, in-inside, in-here}
 use Rattle.edits.specs.Edits.{fitsAfter}
@@ -14,6 +16,7 @@ use Rattle.edits.proofs.insert_record.Statement.{statement}
 use Rattle.edits.proofs.insert_record.Tie as tie
 use Rattle.edits.proofs.insert_record.Reads as reads
 use Rattle.edits.proofs.insert_record.Lts as lts
+use Rattle.home.proofs.lookup.step_of.Reads as step-of-reads
 use Rattle.layout.proofs.classes.class_of.Reads as class-of-reads
 use Rattle.layout.proofs.classes.capacity.Reads as capacity-reads
 use Rattle.moves.specs.LooseLaws.{sound-stored}
@@ -22,83 +25,88 @@ use Rattle.lists.proofs.change.insert_moving.Reads as insert-moving-reads
 use Rattle.edits.proofs.room_after.Reads as room-after-reads
 
 abbrev claims : lts.Claims
-claims = (class-of-reads.Asked, class-of-reads.Learnt, capacity-reads.Asked, capacity-reads.Learnt, insert-here-reads.Asked, insert-here-reads.Learnt, room-after-reads.Asked, room-after-reads.Learnt, insert-moving-reads.Asked, insert-moving-reads.Learnt)
+claims = (step-of-reads.Asked, step-of-reads.Learnt, class-of-reads.Asked, class-of-reads.Learnt, capacity-reads.Asked, capacity-reads.Learnt, insert-here-reads.Asked, insert-here-reads.Learnt, room-after-reads.Asked, room-after-reads.Learnt, insert-moving-reads.Asked, insert-moving-reads.Learnt)
 
 -- the list is not full
 short : (c : lts.Else1 claims reads.Pre reads.Post) → c .before .before .args .n < 989
 short c = omega (arith, c .if1 .left, listed-most _ _ _ _ (c .before .before .pre .listed))
 
 -- it keeps its class, or not
-keeps : (c : lts.Then2 claims reads.Pre reads.Post) → classOf (c .before .before .before .before .before .args .n + 1) ≡ classOf (c .before .before .before .before .before .args .n)
-keeps c = class-stays _ _ (short (c .before .before .before)) (c .before .before .class-of .ensures) (omega (arith, c .if2 .taken, c .before .capacity .ensures .0))
+keeps : (c : lts.Then2 claims reads.Pre reads.Post) → classOf (stepOf (c .before .before .before .before .before .before .before .args .home .now)) (c .before .before .before .before .before .before .before .args .n + 1) ≡ classOf (stepOf (c .before .before .before .before .before .before .before .args .home .now)) (c .before .before .before .before .before .before .before .args .n)
+keeps c = rw (c .before .before .before .step-of .ensures) at (class-stays _ _ _ (short (c .before .before .before .before .before)) (c .before .before .class-of .ensures) (omega (arith, c .if2 .taken, c .before .capacity .ensures .0)))
 
-leaves : (c : lts.Else2 claims reads.Pre reads.Post) → classOf (c .before .before .before .before .before .args .n + 1) ≢ classOf (c .before .before .before .before .before .args .n)
-leaves c = class-leaves _ _ (short (c .before .before .before)) (c .before .before .class-of .ensures) (omega (arith, c .if2 .left, c .before .capacity .ensures .0))
+leaves : (c : lts.Else2 claims reads.Pre reads.Post) → classOf (stepOf (c .before .before .before .before .before .before .before .args .home .now)) (c .before .before .before .before .before .before .before .args .n + 1) ≢ classOf (stepOf (c .before .before .before .before .before .before .before .args .home .now)) (c .before .before .before .before .before .before .before .args .n)
+leaves c = rw (c .before .before .before .step-of .ensures) at (class-leaves _ _ _ (short (c .before .before .before .before .before)) (c .before .before .class-of .ensures) (omega (arith, c .if2 .left, c .before .capacity .ensures .0)))
 
 -- whether there is room then
-room : (c : lts.After-room-after claims reads.Pre reads.Post) → c .room-after .result ≡ fitsAfter (c .before .before .before .before .before .before .before .before .args .home .now) (classOf (c .before .before .before .before .before .before .before .before .args .n)) (classOf (c .before .before .before .before .before .before .before .before .args .n + 1))
-room c = c .room-after .ensures ∙ ap₂ (λ (x y : ℕ). fitsAfter (c .before .before .before .before .before .before .before .before .args .home .now) x y) (c .before .before .before .before .before .class-of .ensures) (c .before .class-of2 .ensures)
+room : (c : lts.After-room-after claims reads.Pre reads.Post)
+    → c .room-after .result ≡ fitsAfter (stepOf (c .before .before .before .before .before .before .before .before .before .before .args .home .now)) (c .before .before .before .before .before .before .before .before .before .before .args .home .now) (classOf (stepOf (c .before .before .before .before .before .before .before .before .before .before .args .home .now)) (c .before .before .before .before .before .before .before .before .before .before .args .n)) (classOf (stepOf (c .before .before .before .before .before .before .before .before .before .before .args .home .now)) (c .before .before .before .before .before .before .before .before .before .before .args .n + 1))
+room c = rw (c .before .before .before .before .before .before .step-of .ensures) at
+    (c .room-after .ensures ∙ ap₂ (λ (x y : ℕ). fitsAfter (c .before .before .before .before .before .before .step-of .result) (c .before .before .before .before .before .before .before .before .before .before .args .home .now) x y) (c .before .before .before .before .before .class-of .ensures) (c .before .class-of2 .ensures))
 
 returns : tie.Need-returns
 returns c = put-full _ _ _ _ _ _ (c .before .before .pre) (c .if1 .taken)
 
+step-of-requires : tie.Need-step-of-requires
+step-of-requires c κs = omega (arith, sound-long _ (c .before .before .before .pre .listed .sound))
+
 class-of-requires : tie.Need-class-of-requires
-class-of-requires c κs = omega (arith, listed-most _ _ _ _ (c .before .before .pre .listed))
+class-of-requires c κs = omega (arith, listed-most _ _ _ _ (c .before .before .before .before .pre .listed))
 
 capacity-requires : tie.Need-capacity-requires
-capacity-requires c κs = rw (c .class-of .ensures) (class-below _ (listed-most _ _ _ _ (c .before .before .before .pre .listed)))
+capacity-requires c κs = rw (c .class-of .ensures) (class-below _ _ (listed-most _ _ _ _ (c .before .before .before .before .before .pre .listed)))
 
 insert-here-requires : tie.Need-insert-here-requires
-insert-here-requires c κs = (missing-under _ _ _ _ _ _ (c .before .before .before .before .before .before .pre), in-inside _ _ _ _ _ _ (c .before .before .before .before .before .before .pre) (short (c .before .before .before .before)) (keeps (c .before)))
+insert-here-requires c κs = (missing-under _ _ _ _ _ _ (c .before .before .before .before .before .before .before .before .pre), in-inside _ _ _ _ _ _ (c .before .before .before .before .before .before .before .before .pre) (short (c .before .before .before .before .before .before)) (keeps (c .before)))
 
-add-t14 : tie.Need-add-t14
-add-t14 c = omega (arith, listed-most _ _ _ _ (c .before .before .before .before .before .before .before .before .before .pre .listed))
+add-t17 : tie.Need-add-t17
+add-t17 c = omega (arith, listed-most _ _ _ _ (c .before .before .before .before .before .before .before .before .before .before .before .pre .listed))
 
 same-length : tie.Need-same-length
 same-length c = search needs
 
 returns-2 : tie.Need-returns-2
 returns-2 c =
-    let d = put-done _ _ _ _ _ _ (c .before .before .before .before .before .before .before .before .before .pre) (short (c .before .before .before .before .before .before .before)) (put-keeps _ _ _ _ _ _ (c .before .before .before .before .before .before .before .before .before .pre) (short (c .before .before .before .before .before .before .before)) (keeps (c .before .before .before .before))) in
-    (d .0, c .before .before .insert-here .ensures ∙ in-here _ _ _ _ _ _ (c .before .before .before .before .before .before .before .before .before .pre) (short (c .before .before .before .before .before .before .before)) (keeps (c .before .before .before .before)) ∙ d .1)
+    let d = put-done _ _ _ _ _ _ (c .before .before .before .before .before .before .before .before .before .before .before .pre) (short (c .before .before .before .before .before .before .before .before .before)) (put-keeps _ _ _ _ _ _ (c .before .before .before .before .before .before .before .before .before .before .before .pre) (short (c .before .before .before .before .before .before .before .before .before)) (keeps (c .before .before .before .before))) in
+    (d .0, c .before .before .insert-here .ensures ∙ in-here _ _ _ _ _ _ (c .before .before .before .before .before .before .before .before .before .before .before .pre) (short (c .before .before .before .before .before .before .before .before .before)) (keeps (c .before .before .before .before)) ∙ d .1)
 
 add-class-of : tie.Need-add-class-of
-add-class-of c = omega (arith, short (c .before .before .before .before))
+add-class-of c = omega (arith, short (c .before .before .before .before .before .before))
 
 class-of-requires-2 : tie.Need-class-of-requires-2
-class-of-requires-2 c κs = omega (arith, short (c .before .before .before .before))
+class-of-requires-2 c κs = omega (arith, short (c .before .before .before .before .before .before))
 
 room-after-requires : tie.Need-room-after-requires
 room-after-requires c κs = (
-  sound-stored _ (c .before .before .before .before .before .before .before .pre .listed .sound),
-  rw (c .before .before .before .before .class-of .ensures) (class-below _ (listed-most _ _ _ _ (c .before .before .before .before .before .before .before .pre .listed))),
-  rw (c .class-of2 .ensures) (class-below _ (omega (arith, short (c .before .before .before .before .before)))),
+  rw (c .before .before .before .before .before .step-of .ensures) (sound-stored _ (c .before .before .before .before .before .before .before .before .before .pre .listed .sound)),
+  rw (c .before .before .before .before .class-of .ensures) (class-below _ _ (listed-most _ _ _ _ (c .before .before .before .before .before .before .before .before .before .pre .listed))),
+  rw (c .class-of2 .ensures) (class-below _ _ (omega (arith, short (c .before .before .before .before .before .before .before)))),
 )
 
 same-length-2 : tie.Need-same-length-2
 same-length-2 c = search needs
 
 returns-3 : tie.Need-returns-3
-returns-3 c = put-no-room _ _ _ _ _ _ (c .before .before .before .before .before .before .before .before .before .pre) (short (c .before .before .before .before .before .before .before)) (sym (room (c .before)) ∙ not-true _ (c .if3 .taken))
+returns-3 c = put-no-room _ _ _ _ _ _ (c .before .before .before .before .before .before .before .before .before .before .before .pre) (short (c .before .before .before .before .before .before .before .before .before)) (sym (room (c .before)) ∙ not-true _ (c .if3 .taken))
 
 slice-aggregate-insert-moving : tie.Need-slice-aggregate-insert-moving
 slice-aggregate-insert-moving c = search needs
 
 insert-moving-requires : tie.Need-insert-moving-requires
 insert-moving-requires c κs = (
-  (c .before .before .before .before .before .before .before .before .before .before .before .pre, short (c .before .before .before .before .before .before .before .before .before), leaves (c .before .before .before .before .before .before), omega (arith, short (c .before .before .before .before .before .before .before .before .before))),
-  sym (put-room _ _ _ _ _ _ (c .before .before .before .before .before .before .before .before .before .before .before .pre) (short (c .before .before .before .before .before .before .before .before .before))) ∙ sym (room (c .before .before .before)) ∙ not-false _ (c .before .before .if3 .left),
+  (c .before .before .before .before .before .before .before .before .before .before .before .before .before .pre, short (c .before .before .before .before .before .before .before .before .before .before .before), leaves (c .before .before .before .before .before .before), omega (arith, short (c .before .before .before .before .before .before .before .before .before .before .before))),
+  sym (put-room _ _ _ _ _ _ (c .before .before .before .before .before .before .before .before .before .before .before .before .before .pre) (short (c .before .before .before .before .before .before .before .before .before .before .before))) ∙ sym (room (c .before .before .before)) ∙ not-false _ (c .before .before .if3 .left),
 )
 
-add-t10 : tie.Need-add-t10
-add-t10 c = omega (arith, listed-most _ _ _ _ (c .before .before .before .before .before .before .before .before .before .before .before .before .before .before .before .pre .listed))
+add-t13 : tie.Need-add-t13
+add-t13 c = omega (arith, listed-most _ _ _ _ (c .before .before .before .before .before .before .before .before .before .before .before .before .before .before .before .before .before .pre .listed))
 
 same-length-3 : tie.Need-same-length-3
 same-length-3 c = search needs
 
 returns-4 : tie.Need-returns-4
 returns-4 c =
-    let d = put-done _ _ _ _ _ _ (c .before .before .before .before .before .before .before .before .before .before .before .before .before .before .before .pre) (short (c .before .before .before .before .before .before .before .before .before .before .before .before .before)) (sym (room (c .before .before .before .before .before .before .before)) ∙ not-false _ (c .before .before .before .before .before .before .if3 .left)) in
+    let d = put-done _ _ _ _ _ _ (c .before .before .before .before .before .before .before .before .before .before .before .before .before .before .before .before .before .pre) (short (c .before .before .before .before .before .before .before .before .before .before .before .before .before .before .before)) (sym (room (c .before .before .before .before .before .before .before)) ∙ not-false _ (c .before .before .before .before .before .before .if3 .left)) in
     (d .0, c .before .before .before .insert-moving .ensures ∙ d .1)
 
 pub insert-record-spec : {M : Type 1} → statement M
@@ -106,10 +114,11 @@ insert-record-spec =
     tie.close
     (tie.spec
     returns
+    step-of-requires
     class-of-requires
     capacity-requires
     insert-here-requires
-    add-t14
+    add-t17
     same-length
     returns-2
     add-class-of
@@ -119,6 +128,6 @@ insert-record-spec =
     returns-3
     slice-aggregate-insert-moving
     insert-moving-requires
-    add-t10
+    add-t13
     same-length-3
     returns-4)

@@ -15,7 +15,7 @@ add-get32 : tie.Need-add-get32
 add-get32 c = search needs
 
 get32-requires : tie.Need-get32-requires
-get32-requires c κs = omega (arith, cells-pos (c .before .before .args .c))
+get32-requires c κs = omega (arith, cells-pos (c .before .before .args .step) (c .before .before .args .c))
 
 index-of-requires : tie.Need-index-of-requires
 index-of-requires c κs = search needs
@@ -48,7 +48,7 @@ same-length : tie.Need-same-length
 same-length c = search needs
 
 returns : tie.Need-returns
-returns c = rw (c .before .before .set-cell .ensures, c .before .before .before .before .before .before .carry .ensures) (moved-is _ _ _ _ _ _ _ (c .before .before .before .before .before .before .before .before .before .before .before .get32 .ensures) (c .before .before .before .before .before .before .before .before .before .index-of .ensures .0) (c .before .before .before .before .before .before .before .before .cells .ensures .0))
+returns c = rw (c .before .before .set-cell .ensures, c .before .before .before .before .before .before .carry .ensures) (moved-is _ _ _ _ _ _ _ _ (c .before .before .before .before .before .before .before .before .before .before .before .get32 .ensures) (c .before .before .before .before .before .before .before .before .before .index-of .ensures .0) (c .before .before .before .before .before .before .before .before .cells .ensures .0))
 
 pub move-block-spec : {M : Type 1} → statement M
 move-block-spec =

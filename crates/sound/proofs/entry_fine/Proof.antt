@@ -9,7 +9,7 @@ use Rattle.sound.proofs.entry_fine.Statement.{statement}
 use Rattle.sound.proofs.entry_fine.Tie as tie
 
 returns : tie.Need-returns
-returns c = let a = c .before .before .before .args in entry-low (a .home .now) (a .area) (a .low) (a .i) (a .tag) (entryCell (a .home .now) (a .i)) (c .before .before .before .pre .1) refl (search needs)
+returns c = let a = c .before .before .before .args in entry-low _ (a .home .now) (a .area) (a .low) (a .i) (a .tag) (entryCell (a .home .now) (a .i)) (c .before .before .before .pre .1) refl (search needs)
 
 mul-get16 : tie.Need-mul-get16
 mul-get16 c = search needs
@@ -30,7 +30,7 @@ returns-2 : tie.Need-returns-2
 returns-2 c =
     let a = c .before .before .before .before .before .before .args in
     let n = c .before .before .get16 in
-    entry-astray (a .home .now) (a .area) (a .low) (a .i) (a .tag) (n .result) (c .before .before .before .before .before .before .pre .1) (n .ensures .0) (search needs) (sym (c .before .leads-at .ensures) ∙ not-true _ (c .if2 .taken))
+    entry-astray _ (a .home .now) (a .area) (a .low) (a .i) (a .tag) (n .result) (c .before .before .before .before .before .before .pre .1) (n .ensures .0) (search needs) (sym (c .before .leads-at .ensures) ∙ not-true _ (c .if2 .taken))
 
 mul-get32 : tie.Need-mul-get32
 mul-get32 c = search needs
@@ -42,13 +42,13 @@ get32-requires : tie.Need-get32-requires
 get32-requires c κs =
     let a = c .before .before .before .before .before .before .args in
     let n = c .before .before .get16 in
-    omega (arith, leads-inside (a .home .now) (a .area) (a .low) (a .i) (a .tag) (n .result) (c .before .before .before .before .before .before .pre .1) (n .ensures .0) (sym (c .before .leads-at .ensures) ∙ not-false _ (c .if2 .left)))
+    omega (arith, leads-inside _ (a .home .now) (a .area) (a .low) (a .i) (a .tag) (n .result) (c .before .before .before .before .before .before .pre .1) (n .ensures .0) (sym (c .before .leads-at .ensures) ∙ not-false _ (c .if2 .left)))
 
 returns-3 : tie.Need-returns-3
 returns-3 c =
     let a = c .before .before .before .before .before .before .before .args in
     let n = c .before .before .before .get16 in
-    ap (λ x. eqb x (a .tag)) (c .get32 .ensures) ∙ entry-rest (a .home .now) (a .area) (a .low) (a .i) (a .tag) (n .result) (c .before .before .before .before .before .before .before .pre .1) (n .ensures .0) (search needs) (sym (c .before .before .leads-at .ensures) ∙ not-false _ (c .before .if2 .left))
+    ap (λ x. eqb x (a .tag)) (c .get32 .ensures) ∙ entry-rest _ (a .home .now) (a .area) (a .low) (a .i) (a .tag) (n .result) (c .before .before .before .before .before .before .before .pre .1) (n .ensures .0) (search needs) (sym (c .before .before .leads-at .ensures) ∙ not-false _ (c .before .if2 .left))
 
 pub entry-fine-spec : {M : Type 1} → statement M
 entry-fine-spec =

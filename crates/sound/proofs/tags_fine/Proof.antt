@@ -10,10 +10,10 @@ use Rattle.sound.proofs.tags_fine.Statement.{statement}
 use Rattle.sound.proofs.tags_fine.Tie as tie
 
 abbrev Inv-loop : tie.InvT-loop
-Inv-loop home classes area n low₀ i₀ low i = (i ≤ n) × (tagsFine home low i (n - i) ≡ tagsFine home 0 0 n)
+Inv-loop home step classes area n low₀ i₀ low i = (i ≤ n) × (tagsFine step home low i (n - i) ≡ tagsFine step home 0 0 n)
 
 abbrev μ-loop : tie.MeasureT-loop
-μ-loop home classes area n low₀ i₀ low i = n - i
+μ-loop home step classes area n low₀ i₀ low i = n - i
 
 loop-holds : tie.Need-loop-holds Inv-loop μ-loop
 loop-holds c = (omega arith, rw sub-zero)
@@ -34,7 +34,7 @@ returns : tie.Need-returns Inv-loop μ-loop
 returns c =
     let a = c .before .before .before .before .before .before .before .args in
     let l = c .before .before .before .before .loop in
-    tags-stop (a .home .now) (a .area) (l .low) (l .i) (a .n) (c .before .before .before .before .before .before .before .pre .2) (search needs) (sym (c .before .entry-fine .ensures) ∙ not-true _ (c .if1 .taken)) ∙ l .inv .1
+    tags-stop _ (a .home .now) (a .area) (l .low) (l .i) (a .n) (c .before .before .before .before .before .before .before .pre .2) (search needs) (sym (c .before .entry-fine .ensures) ∙ not-true _ (c .if1 .taken)) ∙ l .inv .1
 
 cast-low : tie.Need-cast-low Inv-loop μ-loop
 cast-low c = search needs
@@ -52,10 +52,10 @@ loop-again : tie.Need-loop-again Inv-loop μ-loop
 loop-again c =
     let a = c .before .before .before .before .before .before .before .args in
     let l = c .before .before .before .before .loop in
-    (omega arith, rw (c .before .before .get32 .ensures) (tags-turn (a .home .now) (a .area) (l .low) (l .i) (a .n) (c .before .before .before .before .before .before .before .pre .2) (search needs) (sym (c .before .entry-fine .ensures) ∙ not-false _ (c .if1 .left)) ∙ l .inv .1))
+    (omega arith, rw (c .before .before .get32 .ensures) (tags-turn _ (a .home .now) (a .area) (l .low) (l .i) (a .n) (c .before .before .before .before .before .before .before .pre .2) (search needs) (sym (c .before .entry-fine .ensures) ∙ not-false _ (c .if1 .left)) ∙ l .inv .1))
 
 returns-2 : tie.Need-returns-2 Inv-loop μ-loop
-returns-2 c = let a = c .before .before .before .before .args in let l = c .before .loop in tags-end (a .home .now) (l .low) (l .i) (a .n) (search needs) ∙ l .inv .1
+returns-2 c = let a = c .before .before .before .before .args in let l = c .before .loop in tags-end _ (a .home .now) (l .low) (l .i) (a .n) (search needs) ∙ l .inv .1
 
 pub tags-fine-spec : {M : Type 1} → statement M
 tags-fine-spec =

@@ -21,7 +21,7 @@ returns c =
     let a = c .before .before .before .before .args in
     let f = c .before .before .zone-first in
     let m = c .before .zone-count in
-    zone-empty (a .home .now) (a .area) (a .c) (a .e) (f .result) (m .result) (cells (a .c)) (f .ensures .0) (m .ensures .0) refl (search needs)
+    zone-empty _ (a .home .now) (a .area) (a .c) (a .e) (f .result) (m .result) (cells _ (a .c)) (f .ensures .0) (m .ensures .0) refl (search needs)
 
 cells-requires : tie.Need-cells-requires
 cells-requires c κs = search needs
@@ -35,7 +35,7 @@ returns-2 c =
     let f = c .before .before .before .before .before .zone-first in
     let m = c .before .before .before .before .zone-count in
     let s = c .before .before .cells in
-    zone-astray (a .home .now) (a .area) (a .c) (a .e) (f .result) (m .result) (s .result) (f .ensures .0) (m .ensures .0) (s .ensures .0) (c .before .before .before .if1 .left) (sym (c .before .lies .ensures) ∙ not-true _ (c .if2 .taken))
+    zone-astray _ (a .home .now) (a .area) (a .c) (a .e) (f .result) (m .result) (s .result) (f .ensures .0) (m .ensures .0) (s .ensures .0) (c .before .before .before .if1 .left) (sym (c .before .lies .ensures) ∙ not-true _ (c .if2 .taken))
 
 mul-zeros : tie.Need-mul-zeros
 mul-zeros c = search needs
@@ -71,7 +71,7 @@ returns-3 c =
     let m = c .before .before .before .before .before .before .zone-count in
     let s = c .before .before .before .before .cells in
     let w = zone-lies (a .area) (a .e) (s .result) (f .result) (m .result) (sym (c .before .before .before .lies .ensures) ∙ not-false _ (c .before .before .if2 .left)) in
-    zone-gap (a .home .now) (a .area) (a .c) (a .e) (f .result) (m .result) (s .result) (f .ensures .0) (m .ensures .0) (s .ensures .0) (c .before .before .before .before .before .if1 .left) (w .0) (w .1) (w .2) (sym (c .before .zeros .ensures) ∙ not-true _ (c .if3 .taken))
+    zone-gap _ (a .home .now) (a .area) (a .c) (a .e) (f .result) (m .result) (s .result) (f .ensures .0) (m .ensures .0) (s .ensures .0) (c .before .before .before .before .before .if1 .left) (w .0) (w .1) (w .2) (sym (c .before .zeros .ensures) ∙ not-true _ (c .if3 .taken))
 
 blocks-fine-requires : tie.Need-blocks-fine-requires
 blocks-fine-requires c κs =
@@ -90,7 +90,7 @@ returns-4 c =
     let m = c .before .before .before .before .before .before .before .zone-count in
     let s = c .before .before .before .before .before .cells in
     let w = zone-lies (a .area) (a .e) (s .result) (f .result) (m .result) (sym (c .before .before .before .before .lies .ensures) ∙ not-false _ (c .before .before .before .if2 .left)) in
-    c .blocks-fine .ensures ∙ zone-rest (a .home .now) (a .area) (a .c) (a .e) (f .result) (m .result) (s .result) (f .ensures .0) (m .ensures .0) (s .ensures .0) (c .before .before .before .before .before .before .if1 .left) (w .0) (w .1) (w .2) (sym (c .before .before .zeros .ensures) ∙ not-false _ (c .before .if3 .left))
+    c .blocks-fine .ensures ∙ zone-rest _ (a .home .now) (a .area) (a .c) (a .e) (f .result) (m .result) (s .result) (f .ensures .0) (m .ensures .0) (s .ensures .0) (c .before .before .before .before .before .before .if1 .left) (w .0) (w .1) (w .2) (sym (c .before .before .zeros .ensures) ∙ not-false _ (c .before .if3 .left))
 
 pub zone-fine-spec : {M : Type 1} → statement M
 zone-fine-spec =

@@ -8,7 +8,7 @@ zone-count-requires : tie.Need-zone-count-requires
 zone-count-requires c κs = search needs
 
 returns : tie.Need-returns
-returns c = end-empty _ _ _ _ (c .before .zone-count .ensures .0) (c .if1 .taken)
+returns c = end-empty _ _ _ _ _ (c .before .zone-count .ensures .0) (c .if1 .taken)
 
 zone-first-requires : tie.Need-zone-first-requires
 zone-first-requires c κs = search needs
@@ -23,7 +23,7 @@ add-result : tie.Need-add-result
 add-result c = omega (arith, zone-fits (c .before .before .before .zone-count .result) (c .cells .result) (search needs) (search needs))
 
 returns-2 : tie.Need-returns-2
-returns-2 c = end-full _ _ _ _ _ _ (c .before .zone-first .ensures .0) (c .before .before .before .zone-count .ensures .0) (c .cells .ensures .0) (c .before .before .if1 .left)
+returns-2 c = end-full _ _ _ _ _ _ _ (c .before .zone-first .ensures .0) (c .before .before .before .zone-count .ensures .0) (c .cells .ensures .0) (c .before .before .if1 .left)
 
 pub zone-end-spec : {M : Type 1} → statement M
 zone-end-spec =

@@ -11,7 +11,7 @@ add-result : tie.Need-add-result
 add-result c = search needs
 
 returns : tie.Need-returns
-returns c = let e = cells-is (c .before .args .c) in (omega arith, omega arith, omega arith)
+returns c = let e = cells-is (c .before .args .step) (c .before .args .c) in (omega arith, omega arith, omega arith)
 
 pub cells-spec : {M : Type 1} → statement M
 cells-spec = tie.close (tie.spec capacity-requires add-result returns)

@@ -5,7 +5,7 @@ use Rattle.layout.proofs.classes.under.Statement.{statement}
 use Rattle.layout.proofs.classes.under.Tie as tie
 
 returns : tie.Need-returns
-returns c = under-none (c .before .args .c) (search needs)
+returns c = under-none (c .before .args .step) (c .before .args .c) (search needs)
 
 sub-capacity : tie.Need-sub-capacity
 sub-capacity c = search needs
@@ -14,7 +14,7 @@ capacity-requires : tie.Need-capacity-requires
 capacity-requires c κs = search needs
 
 returns-2 : tie.Need-returns-2
-returns-2 c = c .capacity .ensures .0 ∙ under-some (c .before .before .args .c) (c .before .if1 .left)
+returns-2 c = c .capacity .ensures .0 ∙ under-some (c .before .before .args .step) (c .before .before .args .c) (c .before .if1 .left)
 
 pub under-spec : {M : Type 1} → statement M
 under-spec = tie.close (tie.spec returns sub-capacity capacity-requires returns-2)

@@ -10,34 +10,34 @@ use Rattle.moves.proofs.close.close_zone.Statement.{statement}
 use Rattle.moves.proofs.close.close_zone.Tie as tie
 
 abbrev Inv-loop : tie.InvT-loop
-Inv-loop home₀ c e n k f₀ home f = Lowering home₀ home c e f n k × (f + n * k < 4294967296) × (0 < k) × (k ≤ 990) × (e ≤ 8192) × (1664 ≤ length home) × (length home ≡ length home₀)
+Inv-loop home₀ step c e n k f₀ home f = Lowering step home₀ home c e f n k × (f + n * k < 4294967296) × (0 < k) × (k ≤ 990) × (e ≤ 8192) × (1664 ≤ length home) × (length home ≡ length home₀)
 
 abbrev μ-loop : tie.MeasureT-loop
-μ-loop home₀ c e n k f₀ home f = f
+μ-loop home₀ step c e n k f₀ home f = f
 
 zone-count-requires : tie.Need-zone-count-requires Inv-loop μ-loop
-zone-count-requires c κs = omega (arith, open-long _ _ _ _ _ (c .before .before .pre .0))
+zone-count-requires c κs = omega (arith, open-long _ _ _ _ _ _ (c .before .before .pre .0))
 
 same-length : tie.Need-same-length Inv-loop μ-loop
 same-length c = search needs
 
 returns : tie.Need-returns Inv-loop μ-loop
-returns c = let p = zone-none _ _ _ _ _ (c .before .before .before .before .pre .0) (c .before .before .before .before .pre .1) (sym (c .before .zone-count .ensures .0) ∙ c .if1 .taken) in (p .1, p .0)
+returns c = let p = zone-none _ _ _ _ _ _ (c .before .before .before .before .pre .0) (c .before .before .before .before .pre .1) (sym (c .before .zone-count .ensures .0) ∙ c .if1 .taken) in (p .1, p .0)
 
 cells-requires : tie.Need-cells-requires Inv-loop μ-loop
 cells-requires c κs = search needs
 
 zone-first-requires : tie.Need-zone-first-requires Inv-loop μ-loop
-zone-first-requires c κs = omega (arith, open-long _ _ _ _ _ (c .before .before .before .before .before .before .pre .0))
+zone-first-requires c κs = omega (arith, open-long _ _ _ _ _ _ (c .before .before .before .before .before .before .pre .0))
 
 loop-holds : tie.Need-loop-holds Inv-loop μ-loop
 loop-holds c = (
   record { is = c .before .before .before .before .before .before .before .pre .0; under = c .before .before .before .before .before .before .before .pre .1; first = c .zone-first .ensures .0; many = c .before .before .before .before .zone-count .ensures .0; some = c .before .before .before .if1 .left; size = c .before .before .cells .ensures .0; low = refl; end = refl },
   end-small _ _ _ (c .zone-first .ensures .1) (c .before .before .before .before .zone-count .ensures .1) (c .before .before .cells .ensures .1),
-  omega (arith, c .before .before .cells .ensures .0, cells-pos (c .before .before .before .before .before .before .before .args .c)),
+  omega (arith, c .before .before .cells .ensures .0, cells-pos (c .before .before .before .before .before .before .before .args .step) (c .before .before .before .before .before .before .before .args .c)),
   c .before .before .cells .ensures .1,
-  open-small _ _ _ _ _ (c .before .before .before .before .before .before .before .pre .0),
-  omega (arith, open-long _ _ _ _ _ (c .before .before .before .before .before .before .before .pre .0)),
+  open-small _ _ _ _ _ _ (c .before .before .before .before .before .before .before .pre .0),
+  omega (arith, open-long _ _ _ _ _ _ (c .before .before .before .before .before .before .before .pre .0)),
   refl,
 )
 
@@ -54,7 +54,7 @@ add-move-block : tie.Need-add-move-block Inv-loop μ-loop
 add-move-block c = search needs
 
 move-block-requires : tie.Need-move-block-requires Inv-loop μ-loop
-move-block-requires c κs = lower-requires _ _ _ _ _ _ _ (c .before .before .loop .inv .0) (omega arith)
+move-block-requires c κs = lower-requires _ _ _ _ _ _ _ _ (c .before .before .loop .inv .0) (omega arith)
 
 set-zone-requires : tie.Need-set-zone-requires Inv-loop μ-loop
 set-zone-requires c κs = search needs
@@ -64,7 +64,7 @@ loop-less c = search needs
 
 loop-again : tie.Need-loop-again Inv-loop μ-loop
 loop-again c = (
-  rw (c .before .before .set-zone .ensures, c .before .before .before .before .before .before .move-block .ensures) (lower-next _ _ _ _ _ _ _ (c .before .before .before .before .before .before .before .before .before .loop .inv .0) (omega arith)),
+  rw (c .before .before .set-zone .ensures, c .before .before .before .before .before .before .move-block .ensures) (lower-next _ _ _ _ _ _ _ _ (c .before .before .before .before .before .before .before .before .before .loop .inv .0) (omega arith)),
   omega arith,
   c .before .before .before .before .before .before .before .before .before .loop .inv .2,
   c .before .before .before .before .before .before .before .before .before .loop .inv .3,
@@ -83,7 +83,7 @@ same-length-2 : tie.Need-same-length-2 Inv-loop μ-loop
 same-length-2 c = search needs
 
 returns-2 : tie.Need-returns-2 Inv-loop μ-loop
-returns-2 c = lower-done _ _ _ _ _ _ _ (c .before .loop .inv .0) (omega arith)
+returns-2 c = lower-done _ _ _ _ _ _ _ _ (c .before .loop .inv .0) (omega arith)
 
 pub close-zone-spec : {M : Type 1} → statement M
 close-zone-spec =

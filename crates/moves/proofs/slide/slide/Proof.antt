@@ -6,22 +6,22 @@ use Rattle.moves.proofs.slide.slide.Statement.{statement}
 use Rattle.moves.proofs.slide.slide.Tie as tie
 
 zone-count-requires : tie.Need-zone-count-requires
-zone-count-requires c κs = (c .before .before .pre .class, omega (arith, slides-long _ _ _ _ _ (c .before .before .pre)))
+zone-count-requires c κs = (c .before .before .pre .class, omega (arith, slides-long _ _ _ _ _ _ (c .before .before .pre)))
 
 same-length : tie.Need-same-length
 same-length c = search needs
 
 returns : tie.Need-returns
-returns c = slide-stays _ _ _ _ _ (c .before .before .before .before .pre) (λ d. absurd (d (sym (c .before .zone-count .ensures .0) ∙ c .if1 .taken)))
+returns c = slide-stays _ _ _ _ _ _ (c .before .before .before .before .pre) (λ d. absurd (d (sym (c .before .zone-count .ensures .0) ∙ c .if1 .taken)))
 
 zone-first-requires : tie.Need-zone-first-requires
-zone-first-requires c κs = (c .before .before .before .before .before .pre .class, omega (arith, slides-long _ _ _ _ _ (c .before .before .before .before .before .pre)))
+zone-first-requires c κs = (c .before .before .before .before .before .pre .class, omega (arith, slides-long _ _ _ _ _ _ (c .before .before .before .before .before .pre)))
 
 same-length-2 : tie.Need-same-length-2
 same-length-2 c = search needs
 
 returns-2 : tie.Need-returns-2
-returns-2 c = slide-stays _ _ _ _ _ (c .before .before .before .before .before .before .before .pre) (λ d. sym (c .before .zone-first .ensures .0) ∙ c .if2 .taken)
+returns-2 c = slide-stays _ _ _ _ _ _ (c .before .before .before .before .before .before .before .pre) (λ d. sym (c .before .zone-first .ensures .0) ∙ c .if2 .taken)
 
 slide-down-requires : tie.Need-slide-down-requires
 slide-down-requires c κs = (record { slides = c .before .before .before .before .before .before .before .before .before .pre; first = c .before .before .before .zone-first .ensures .0; many = c .before .before .before .before .before .before .zone-count .ensures .0; some = c .before .before .before .before .before .if1 .left }, omega (arith, c .before .if3 .taken))

@@ -16,7 +16,7 @@ use Rattle.zones.proofs.afresh.+lay_from.{statement}
 use Rattle.zones.proofs.afresh.+lay_from.Tie.{close}
 
 abbrev μ-lay-from : Measures 1 lay-from-kinds.ps ℕ
-μ-lay-from κs a = 30 - a .1 .0
+μ-lay-from κs a = 30 - a .1 .1 .0
 
 abbrev lay-from-at : ℕ → In 1 lay-from-kinds.ps
 lay-from-at t = and 1 lay-from-kinds.ps (is 1 lay-from-kinds.ps μ-lay-from t) lay-from.Pre
@@ -29,26 +29,26 @@ abbrev claims : ℕ → lay-from-lts.Claims
 claims t = (zone-count-reads.Asked, zone-count-reads.Learnt, cells-reads.Asked, cells-reads.Learnt, zone-first-reads.Asked, zone-first-reads.Learnt, slide-reads.Asked, slide-reads.Learnt, lay-from-below t, lay-from.Post)
 
 lay-from-returns : (t : ℕ) → lay-from-lts.Need-returns (claims t) (lay-from-at t) lay-from.Post
-lay-from-returns t c = from-end _ _ _ (c .before .before .pre .1) (c .if1 .taken)
+lay-from-returns t c = from-end _ _ _ _ (c .before .before .pre .1) (c .if1 .taken)
 
 lay-from-zone-count-requires : (t : ℕ) → lay-from-lts.Need-zone-count-requires (claims t) (lay-from-at t) lay-from.Post
-lay-from-zone-count-requires t c κs = (omega (arith, c .before .before .before .pre .1 .class, c .before .if1 .left), omega (arith, stored-long _ (c .before .before .before .pre .1 .stored)))
+lay-from-zone-count-requires t c κs = (omega (arith, c .before .before .before .pre .1 .class, c .before .if1 .left), omega (arith, stored-long _ _ (c .before .before .before .pre .1 .stored)))
 
 lay-from-cells-requires : (t : ℕ) → lay-from-lts.Need-cells-requires (claims t) (lay-from-at t) lay-from.Post
 lay-from-cells-requires t c κs = omega (arith, c .before .before .before .before .pre .1 .class, c .before .before .if1 .left)
 
 lay-from-mul-next : (t : ℕ) → lay-from-lts.Need-mul-next (claims t) (lay-from-at t) lay-from.Post
-lay-from-mul-next t c = omega (arith, from-small _ _ _ (c .before .before .before .before .before .pre .1) (c .before .before .before .if1 .left) _ 0 _ (c .before .zone-count .ensures .0) (c .cells .ensures .0))
+lay-from-mul-next t c = omega (arith, from-small _ _ _ _ (c .before .before .before .before .before .pre .1) (c .before .before .before .if1 .left) _ 0 _ (c .before .zone-count .ensures .0) (c .cells .ensures .0))
 
 lay-from-add-next : (t : ℕ) → lay-from-lts.Need-add-next (claims t) (lay-from-at t) lay-from.Post
-lay-from-add-next t c = omega (arith, from-small _ _ _ (c .before .before .before .before .before .pre .1) (c .before .before .before .if1 .left) _ 0 _ (c .before .zone-count .ensures .0) (c .cells .ensures .0))
+lay-from-add-next t c = omega (arith, from-small _ _ _ _ (c .before .before .before .before .before .pre .1) (c .before .before .before .if1 .left) _ 0 _ (c .before .zone-count .ensures .0) (c .cells .ensures .0))
 
 lay-from-zone-first-requires : (t : ℕ) → lay-from-lts.Need-zone-first-requires (claims t) (lay-from-at t) lay-from.Post
-lay-from-zone-first-requires t c κs = (omega (arith, c .before .before .before .before .before .before .pre .1 .class, c .before .before .before .before .if1 .left), omega (arith, stored-long _ (c .before .before .before .before .before .before .pre .1 .stored)))
+lay-from-zone-first-requires t c κs = (omega (arith, c .before .before .before .before .before .before .pre .1 .class, c .before .before .before .before .if1 .left), omega (arith, stored-long _ _ (c .before .before .before .before .before .before .pre .1 .stored)))
 
 lay-from-slide-requires : (t : ℕ) → lay-from-lts.Need-slide-requires (claims t) (lay-from-at t) lay-from.Post
 lay-from-slide-requires t c κs =
-    down-slides _ _ _ (c .before .before .before .before .before .before .before .before .before .pre .1) (c .before .before .before .before .before .before .before .if1 .left) _ _ _ (c .before .before .before .before .before .zone-count .ensures .0) (c .before .before .before .before .cells .ensures .0) (c .before .before .zone-first .ensures .0) (c .before .if2 .taken)
+    down-slides _ _ _ _ (c .before .before .before .before .before .before .before .before .before .pre .1) (c .before .before .before .before .before .before .before .if1 .left) _ _ _ (c .before .before .before .before .before .zone-count .ensures .0) (c .before .before .before .before .cells .ensures .0) (c .before .before .zone-first .ensures .0) (c .before .if2 .taken)
 
 lay-from-add-lay-from : (t : ℕ) → lay-from-lts.Need-add-lay-from (claims t) (lay-from-at t) lay-from.Post
 lay-from-add-lay-from t c = omega (arith, c .before .before .before .before .before .before .before .before .before .before .before .before .before .pre .1 .class)
@@ -56,7 +56,7 @@ lay-from-add-lay-from t c = omega (arith, c .before .before .before .before .bef
 lay-from-lay-from-requires : (t : ℕ) → lay-from-lts.Need-lay-from-requires (claims t) (lay-from-at t) lay-from.Post
 lay-from-lay-from-requires t c κs = (
   omega (arith, c .before .before .before .before .before .before .before .before .before .before .before .before .before .pre .0, c .before .before .before .before .before .before .before .before .before .before .before .before .before .pre .1 .class, c .before .before .before .before .before .before .before .before .before .before .before .if1 .left),
-  down-next _ _ _ (c .before .before .before .before .before .before .before .before .before .before .before .before .before .pre .1) (c .before .before .before .before .before .before .before .before .before .before .before .if1 .left) _ _ _ (c .before .before .before .before .before .before .before .before .before .zone-count .ensures .0) (c .before .before .before .before .before .before .before .before .cells .ensures .0) (c .before .before .before .before .before .before .zone-first .ensures .0) (c .before .before .before .before .before .if2 .taken) _ (c .before .before .before .slide .ensures),
+  down-next _ _ _ _ (c .before .before .before .before .before .before .before .before .before .before .before .before .before .pre .1) (c .before .before .before .before .before .before .before .before .before .before .before .if1 .left) _ _ _ (c .before .before .before .before .before .before .before .before .before .zone-count .ensures .0) (c .before .before .before .before .before .before .before .before .cells .ensures .0) (c .before .before .before .before .before .before .zone-first .ensures .0) (c .before .before .before .before .before .if2 .taken) _ (c .before .before .before .slide .ensures),
 )
 
 lay-from-add-lay-from-2 : (t : ℕ) → lay-from-lts.Need-add-lay-from-2 (claims t) (lay-from-at t) lay-from.Post
@@ -65,26 +65,26 @@ lay-from-add-lay-from-2 t c = omega (arith, c .before .before .before .before .b
 lay-from-lay-from-requires-2 : (t : ℕ) → lay-from-lts.Need-lay-from-requires-2 (claims t) (lay-from-at t) lay-from.Post
 lay-from-lay-from-requires-2 t c κs = (
   omega (arith, c .before .before .before .before .before .before .before .before .before .pre .0, c .before .before .before .before .before .before .before .before .before .pre .1 .class, c .before .before .before .before .before .before .before .if1 .left),
-  up-next _ _ _ (c .before .before .before .before .before .before .before .before .before .pre .1) (c .before .before .before .before .before .before .before .if1 .left) _ _ _ (c .before .before .before .before .before .zone-count .ensures .0) (c .before .before .before .before .cells .ensures .0) (c .before .before .zone-first .ensures .0) (omega (arith, c .before .if2 .left)),
+  up-next _ _ _ _ (c .before .before .before .before .before .before .before .before .before .pre .1) (c .before .before .before .before .before .before .before .if1 .left) _ _ _ (c .before .before .before .before .before .zone-count .ensures .0) (c .before .before .before .before .cells .ensures .0) (c .before .before .zone-first .ensures .0) (omega (arith, c .before .if2 .left)),
 )
 
 lay-from-slide-requires-2 : (t : ℕ) → lay-from-lts.Need-slide-requires-2 (claims t) (lay-from-at t) lay-from.Post
 lay-from-slide-requires-2 t c κs =
-    up-slides _ _ _ (c .before .before .before .before .before .before .before .before .before .before .before .before .before .pre .1) (c .before .before .before .before .before .before .before .before .before .before .before .if1 .left) _ _ _ (c .before .before .before .before .before .before .before .before .before .zone-count .ensures .0) (c .before .before .before .before .before .before .before .before .cells .ensures .0) (c .before .before .before .before .before .before .zone-first .ensures .0) (omega (arith, c .before .before .before .before .before .if2 .left)) _ (c .before .before .before .lay-from2 .ensures)
+    up-slides _ _ _ _ (c .before .before .before .before .before .before .before .before .before .before .before .before .before .pre .1) (c .before .before .before .before .before .before .before .before .before .before .before .if1 .left) _ _ _ (c .before .before .before .before .before .before .before .before .before .zone-count .ensures .0) (c .before .before .before .before .before .before .before .before .cells .ensures .0) (c .before .before .before .before .before .before .zone-first .ensures .0) (omega (arith, c .before .before .before .before .before .if2 .left)) _ (c .before .before .before .lay-from2 .ensures)
 
 lay-from-same-length : (t : ℕ) → lay-from-lts.Need-same-length (claims t) (lay-from-at t) lay-from.Post
 lay-from-same-length t c = search needs
 
 lay-from-returns-2 : (t : ℕ) → lay-from-lts.Need-returns-2 (claims t) (lay-from-at t) lay-from.Post
 lay-from-returns-2 t c =
-    down-done _ _ _ (c .before .before .before .before .before .before .before .before .before .before .before .before .before .before .before .before .pre .1) (c .before .before .before .before .before .before .before .before .before .before .before .before .before .before .if1 .left) _ _ _ (c .before .before .before .before .before .before .before .before .before .before .before .before .zone-count .ensures .0) (c .before .before .before .before .before .before .before .before .before .before .before .cells .ensures .0) (c .before .before .before .before .before .before .before .before .before .zone-first .ensures .0) (c .before .before .before .before .before .before .before .before .if2 .taken) _ (c .before .before .before .before .before .before .slide .ensures) _ (c .before .before .lay-from .ensures)
+    down-done _ _ _ _ (c .before .before .before .before .before .before .before .before .before .before .before .before .before .before .before .before .pre .1) (c .before .before .before .before .before .before .before .before .before .before .before .before .before .before .if1 .left) _ _ _ (c .before .before .before .before .before .before .before .before .before .before .before .before .zone-count .ensures .0) (c .before .before .before .before .before .before .before .before .before .before .before .cells .ensures .0) (c .before .before .before .before .before .before .before .before .before .zone-first .ensures .0) (c .before .before .before .before .before .before .before .before .if2 .taken) _ (c .before .before .before .before .before .before .slide .ensures) _ (c .before .before .lay-from .ensures)
 
 lay-from-same-length-2 : (t : ℕ) → lay-from-lts.Need-same-length-2 (claims t) (lay-from-at t) lay-from.Post
 lay-from-same-length-2 t c = search needs
 
 lay-from-returns-3 : (t : ℕ) → lay-from-lts.Need-returns-3 (claims t) (lay-from-at t) lay-from.Post
 lay-from-returns-3 t c =
-    up-done _ _ _ (c .before .before .before .before .before .before .before .before .before .before .before .before .before .before .before .before .pre .1) (c .before .before .before .before .before .before .before .before .before .before .before .before .before .before .if1 .left) _ _ _ (c .before .before .before .before .before .before .before .before .before .before .before .before .zone-count .ensures .0) (c .before .before .before .before .before .before .before .before .before .before .before .cells .ensures .0) (c .before .before .before .before .before .before .before .before .before .zone-first .ensures .0) (omega (arith, c .before .before .before .before .before .before .before .before .if2 .left)) _ (c .before .before .before .before .before .before .lay-from2 .ensures) _ (c .before .before .slide2 .ensures)
+    up-done _ _ _ _ (c .before .before .before .before .before .before .before .before .before .before .before .before .before .before .before .before .pre .1) (c .before .before .before .before .before .before .before .before .before .before .before .before .before .before .if1 .left) _ _ _ (c .before .before .before .before .before .before .before .before .before .before .before .before .zone-count .ensures .0) (c .before .before .before .before .before .before .before .before .before .before .before .cells .ensures .0) (c .before .before .before .before .before .before .before .before .before .zone-first .ensures .0) (omega (arith, c .before .before .before .before .before .before .before .before .if2 .left)) _ (c .before .before .before .before .before .before .lay-from2 .ensures) _ (c .before .before .slide2 .ensures)
 
 pub +lay-from-spec : {M : Type 1} → statement M
 +lay-from-spec = close μ-lay-from λ t. lay-from-lts.spec (claims t)

@@ -9,28 +9,28 @@ use Rattle.zones.proofs.afresh.lay_below.Statement.{statement}
 use Rattle.zones.proofs.afresh.lay_below.Tie as tie
 
 abbrev Inv-loop : tie.InvT-loop
-Inv-loop home₀ c d₀ e₀ home d e = Lowered home₀ home d e × (d ≤ c) × (c ≤ 30) × (length home ≡ length home₀) × (1664 ≤ length home₀)
+Inv-loop home₀ step c d₀ e₀ home d e = Lowered step home₀ home d e × (d ≤ c) × (c ≤ 30) × (length home ≡ length home₀) × (1664 ≤ length home₀)
 
 abbrev μ-loop : tie.MeasureT-loop
-μ-loop home₀ c d₀ e₀ home d e = c - d
+μ-loop home₀ step c d₀ e₀ home d e = c - d
 
 loop-holds : tie.Need-loop-holds Inv-loop μ-loop
-loop-holds c = (lower-start _ (c .before .pre .0), omega arith, c .before .pre .1, refl, omega (arith, stored-long _ (c .before .pre .0)))
+loop-holds c = (lower-start _ _ (c .before .pre .0), omega arith, c .before .pre .1, refl, omega (arith, stored-long _ _ (c .before .pre .0)))
 
 zone-count-requires : tie.Need-zone-count-requires Inv-loop μ-loop
 zone-count-requires c κs = (omega (arith, c .before .before .loop .inv .2), omega (arith, c .before .before .loop .inv .3, c .before .before .loop .inv .4))
 
 slide-requires : tie.Need-slide-requires Inv-loop μ-loop
-slide-requires c κs = lower-slides _ _ _ _ (c .before .before .before .before .loop .inv .0) (omega (arith, c .before .before .before .before .loop .inv .2))
+slide-requires c κs = lower-slides _ _ _ _ _ (c .before .before .before .before .loop .inv .0) (omega (arith, c .before .before .before .before .loop .inv .2))
 
 cells-requires : tie.Need-cells-requires Inv-loop μ-loop
 cells-requires c κs = omega (arith, c .before .before .before .before .before .before .before .loop .inv .2)
 
 mul-e : tie.Need-mul-e Inv-loop μ-loop
-mul-e c = omega (arith, lower-small _ _ _ _ (c .before .before .before .before .before .before .before .before .loop .inv .0) (omega (arith, c .before .before .before .before .before .before .before .before .loop .inv .2)) _ _ (c .before .before .before .before .before .zone-count .ensures .0) (c .cells .ensures .0))
+mul-e c = omega (arith, lower-small _ _ _ _ _ (c .before .before .before .before .before .before .before .before .loop .inv .0) (omega (arith, c .before .before .before .before .before .before .before .before .loop .inv .2)) _ _ (c .before .before .before .before .before .zone-count .ensures .0) (c .cells .ensures .0))
 
 add-e : tie.Need-add-e Inv-loop μ-loop
-add-e c = omega (arith, lower-small _ _ _ _ (c .before .before .before .before .before .before .before .before .loop .inv .0) (omega (arith, c .before .before .before .before .before .before .before .before .loop .inv .2)) _ _ (c .before .before .before .before .before .zone-count .ensures .0) (c .cells .ensures .0))
+add-e c = omega (arith, lower-small _ _ _ _ _ (c .before .before .before .before .before .before .before .before .loop .inv .0) (omega (arith, c .before .before .before .before .before .before .before .before .loop .inv .2)) _ _ (c .before .before .before .before .before .zone-count .ensures .0) (c .cells .ensures .0))
 
 add-d : tie.Need-add-d Inv-loop μ-loop
 add-d c = omega (arith, c .before .before .before .before .before .before .before .before .loop .inv .2)
@@ -40,7 +40,7 @@ loop-less c = search needs
 
 loop-again : tie.Need-loop-again Inv-loop μ-loop
 loop-again c = (
-  lower-again _ _ _ _ (c .before .before .before .before .before .before .before .before .loop .inv .0) (omega (arith, c .before .before .before .before .before .before .before .before .loop .inv .2)) _ _ _ (c .before .before .before .before .before .zone-count .ensures .0) (c .cells .ensures .0) (c .before .before .before .slide .ensures),
+  lower-again _ _ _ _ _ (c .before .before .before .before .before .before .before .before .loop .inv .0) (omega (arith, c .before .before .before .before .before .before .before .before .loop .inv .2)) _ _ _ (c .before .before .before .before .before .zone-count .ensures .0) (c .cells .ensures .0) (c .before .before .before .slide .ensures),
   omega arith,
   c .before .before .before .before .before .before .before .before .loop .inv .2,
   search needs,
@@ -51,7 +51,7 @@ same-length : tie.Need-same-length Inv-loop μ-loop
 same-length c = search needs
 
 returns : tie.Need-returns Inv-loop μ-loop
-returns c = lower-done _ _ (c .before .before .before .args .c) _ _ (c .before .loop .inv .0) (omega (arith, c .before .loop .inv .1))
+returns c = lower-done _ _ _ (c .before .before .before .args .c) _ _ (c .before .loop .inv .0) (omega (arith, c .before .loop .inv .1))
 
 pub lay-below-spec : {M : Type 1} → statement M
 lay-below-spec =

@@ -28,7 +28,7 @@ same-length : tie.Need-same-length
 same-length c = search needs
 
 returns : tie.Need-returns
-returns c = put-done _ _ _ _ _ _ _ _ _ _ _ (c .before .before .before .before .before .before .before .before .before .before .before .before .before .before .before .zone-count .ensures .0) (c .before .before .before .before .before .before .before .before .before .before .before .before .before .zone-first .ensures .0) (c .before .before .before .before .before .before .before .before .before .before .before .write-block .ensures) (c .before .before .before .before .before .before .before .insert-entry .ensures) (c .before .before .before .before .first-with .ensures) (c .before .before .set-zone .ensures)
+returns c = put-done _ _ _ _ _ _ _ _ _ _ _ _ (c .before .before .before .before .before .before .before .before .before .before .before .before .before .before .before .zone-count .ensures .0) (c .before .before .before .before .before .before .before .before .before .before .before .before .before .zone-first .ensures .0) (c .before .before .before .before .before .before .before .before .before .before .before .write-block .ensures) (c .before .before .before .before .before .before .before .insert-entry .ensures) (c .before .before .before .before .first-with .ensures) (c .before .before .set-zone .ensures)
 
 pub put-block-spec : {M : Type 1} → statement M
 put-block-spec =

@@ -27,13 +27,13 @@ same-length : tie.Need-same-length
 same-length c = search needs
 
 returns : tie.Need-returns
-returns c = c .before .before .move-block .ensures ∙ sym (filled-other _ _ _ _ (c .before .before .before .before .if1 .taken))
+returns c = c .before .before .move-block .ensures ∙ sym (filled-other _ _ _ _ _ (c .before .before .before .before .if1 .taken))
 
 same-length-2 : tie.Need-same-length-2
 same-length-2 c = search needs
 
 returns-2 : tie.Need-returns-2
-returns-2 c = rw (c .before .before .fill .ensures, c .before .before .before .cells .ensures .0) (sym (filled-here _ _ _ _ (omega arith)))
+returns-2 c = rw (c .before .before .fill .ensures, c .before .before .before .cells .ensures .0) (sym (filled-here _ _ _ _ _ (omega arith)))
 
 pub fill-place-spec : {M : Type 1} → statement M
 fill-place-spec =

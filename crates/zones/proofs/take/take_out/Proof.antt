@@ -10,22 +10,22 @@ remove-block-requires : tie.Need-remove-block-requires
 remove-block-requires c κs = search needs
 
 add-end-from : tie.Need-add-end-from
-add-end-from c = omega (arith, known-class _ _ _ _ _ _ (c .before .before .before .before .before .before .pre))
+add-end-from c = omega (arith, known-class _ _ _ _ _ _ _ (c .before .before .before .before .before .before .pre))
 
 end-from-requires : tie.Need-end-from-requires
-end-from-requires c κs = omega (arith, known-class _ _ _ _ _ _ (c .before .before .before .before .before .before .pre), stored-long _ (out-stored _ _ _ _ _ _ (c .before .before .before .before .before .before .pre) _ (c .before .before .before .remove-block .ensures)))
+end-from-requires c κs = omega (arith, known-class _ _ _ _ _ _ _ (c .before .before .before .before .before .before .pre), stored-long _ _ (out-stored _ _ _ _ _ _ _ (c .before .before .before .before .before .before .pre) _ (c .before .before .before .remove-block .ensures)))
 
 add-close-up : tie.Need-add-close-up
-add-close-up c = omega (arith, known-class _ _ _ _ _ _ (c .before .before .before .before .before .before .before .before .pre))
+add-close-up c = omega (arith, known-class _ _ _ _ _ _ _ (c .before .before .before .before .before .before .before .before .pre))
 
 close-up-requires : tie.Need-close-up-requires
-close-up-requires c κs = out-open _ _ _ _ _ _ (c .before .before .before .before .before .before .before .before .pre) _ (c .before .before .before .before .before .remove-block .ensures) _ (c .before .end-from .ensures)
+close-up-requires c κs = out-open _ _ _ _ _ _ _ (c .before .before .before .before .before .before .before .before .pre) _ (c .before .before .before .before .before .remove-block .ensures) _ (c .before .end-from .ensures)
 
 same-length : tie.Need-same-length
 same-length c = search needs
 
 returns : tie.Need-returns
-returns c = c .before .before .close-up .ensures ∙ out-taken _ _ _ _ _ _ (c .before .before .before .before .before .before .before .before .before .before .before .pre) _ (c .before .before .before .before .before .before .before .before .remove-block .ensures) _ (c .before .before .before .before .end-from .ensures)
+returns c = c .before .before .close-up .ensures ∙ out-taken _ _ _ _ _ _ _ (c .before .before .before .before .before .before .before .before .before .before .before .pre) _ (c .before .before .before .before .before .before .before .before .remove-block .ensures) _ (c .before .before .before .before .end-from .ensures)
 
 pub take-out-spec : {M : Type 1} → statement M
 take-out-spec =
