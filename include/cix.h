@@ -49,8 +49,15 @@ enum cix_refusal {
     CIX_TAGS_FULL = 11,      /* put: there are 256 tags */
     CIX_NO_ROOM = 12,        /* put: all blocks together would not fit */
     CIX_LOG_SHORT = 13,      /* commit: more pages differ than the log has entries */
-    CIX_SIZES = 14,          /* format: sizes out of range, or the length does not match */
+    CIX_SIZES = 14,          /* format: sizes or step code out of range, or the length does not match */
     CIX_OUTPUT_SHORT = 15    /* the output is shorter than the records to write */
+};
+
+/* Step codes: how a block's capacity grows when its list does. By 31/20 fewer blocks move than by 25/21,
+ * and they take more space. */
+enum cix_step {
+    CIX_STEP_FINE = 0,       /* 4, 5, 6, 8, 10, .. 989 records: each the one before times 25/21 */
+    CIX_STEP_COARSE = 1      /* 4, 7, 11, 18, 28, .. 989 records: each the one before times 31/20 */
 };
 
 /* What an answer is, and its number. */
@@ -71,9 +78,10 @@ enum cix_refusal {
 /* A record has 8 bytes: level (1), second (4), phone (2), minutes (1), most significant byte first.
  * Lists rise by level, then second, then phone. */
 
-/* Makes the image an empty index of `entries` log entries and `pages` record pages, with at most
- * `stores` stores. Done or cut, with the stores made. Refused: 14. */
-uint64_t cix_format(uint8_t *image, size_t image_len, uint32_t entries, uint32_t pages,
+/* Makes the image an empty index of `entries` log entries and `pages` record pages, whose blocks grow
+ * by `step`, one of enum cix_step, with at most `stores` stores. Done or cut, with the stores made.
+ * Refused: 14. */
+uint64_t cix_format(uint8_t *image, size_t image_len, uint32_t entries, uint32_t pages, uint32_t step,
                     uint32_t stores);
 
 /* Copies the image's index to the workspace, whose old bytes do not matter. Done, 0.
@@ -98,9 +106,9 @@ uint64_t cix_set_minutes(uint8_t *space, size_t space_len, uint32_t tag, uint8_t
 /* Drops a tag with its list. Done, 0. Refused: 6, 7, 9. */
 uint64_t cix_drop_tag(uint8_t *space, size_t space_len, uint32_t tag);
 
-/* Makes the workspace the image's index, with at most `stores` stores. Done or cut, with the stores
- * made: 130 for each page of 64 bytes that differs and 4 more, or none. The index found afterwards
- * is the old one or the new one, wherever it was cut. Refused: 1, 3, 5, 6, 7, 13. */
+/* Makes the workspace the image's index, its step code too, with at most `stores` stores. Done or cut,
+ * with the stores made: 130 for each page of 64 bytes that differs and 4 more, or none. The index found
+ * afterwards is the old one or the new one, wherever it was cut. Refused: 1, 3, 5, 6, 7, 13. */
 uint64_t cix_commit(uint8_t *image, size_t image_len, const uint8_t *space, size_t space_len,
                     uint32_t stores);
 

@@ -1,5 +1,5 @@
 /* Calls every function of cix.h: on no bytes at all, with lengths that are not true, through the
- * specification's bench cases, and where all zones are laid out afresh. */
+ * specification's bench cases, where all zones are laid out afresh, and with the coarse step. */
 #include "cix.h"
 #include <stdio.h>
 #include <stdlib.h>
@@ -33,7 +33,7 @@ static size_t cell(uint32_t tag) {
 }
 
 static void no_bytes(void) {
-    REFUSED(cix_format(NULL, 0, 1, 1, CIX_ALL), CIX_SIZES);
+    REFUSED(cix_format(NULL, 0, 1, 1, CIX_STEP_FINE, CIX_ALL), CIX_SIZES);
     REFUSED(cix_begin(NULL, 0, NULL, 0), CIX_BAD_HEAD);
     REFUSED(cix_put(NULL, 0, 7, 1, 2, 3, 4), CIX_SPACE_LENGTH);
     REFUSED(cix_delete(NULL, 0, 7, 1, 2, 3), CIX_SPACE_LENGTH);
@@ -58,7 +58,7 @@ static void short_lengths(void) {
     for (size_t n = 0; n < sizeof image; n++) {
         REFUSED(cix_begin(image, n, SPACE), CIX_BAD_HEAD);
         REFUSED(cix_recover(image, n, CIX_ALL), CIX_BAD_HEAD);
-        REFUSED(cix_format(image, n, ENTRIES, PAGES, CIX_ALL), CIX_SIZES);
+        REFUSED(cix_format(image, n, ENTRIES, PAGES, CIX_STEP_FINE, CIX_ALL), CIX_SIZES);
     }
     for (size_t n = 0; n < sizeof space; n++) {
         REFUSED(cix_begin(IMAGE, space, n), CIX_SPACE_LENGTH);
@@ -77,7 +77,7 @@ static void long_lengths(void) {
     memcpy(s, space, sizeof space);
     for (size_t j = 0; j < sizeof more / sizeof *more; j++) {
         size_t n = sizeof image + more[j], m = sizeof space + more[j];
-        REFUSED(cix_format(i, n, ENTRIES, PAGES, CIX_ALL), CIX_SIZES);
+        REFUSED(cix_format(i, n, ENTRIES, PAGES, CIX_STEP_FINE, CIX_ALL), CIX_SIZES);
         REFUSED(cix_begin(i, n, s, sizeof space), CIX_BAD_HEAD);
         REFUSED(cix_begin(i, sizeof image, s, m), CIX_SPACE_LENGTH);
         REFUSED(cix_commit(i, n, s, sizeof space, CIX_ALL), CIX_BAD_HEAD);
@@ -136,7 +136,7 @@ static void merges(void) {
 /* Bench cases 8 and 12: a commit cut before its mark, after it, and recovered. */
 static void cuts(void) {
     uint8_t before[sizeof image];
-    DONE(cix_format(IMAGE, ENTRIES, PAGES, CIX_ALL), sizeof image + 1);
+    DONE(cix_format(IMAGE, ENTRIES, PAGES, CIX_STEP_FINE, CIX_ALL), sizeof image + 1);
     DONE(cix_begin(IMAGE, SPACE), 0);
     DONE(cix_commit(IMAGE, SPACE, 0), 0);
     DONE(cix_put(SPACE, 7, 1, 100, 9, 0), 1);
@@ -161,7 +161,7 @@ static void cuts(void) {
 
 /* A commit cut in the middle of its mark, which then holds neither 0 nor 165. */
 static void spoiled_mark(void) {
-    DONE(cix_format(IMAGE, ENTRIES, PAGES, CIX_ALL), sizeof image + 1);
+    DONE(cix_format(IMAGE, ENTRIES, PAGES, CIX_STEP_FINE, CIX_ALL), sizeof image + 1);
     DONE(cix_begin(IMAGE, SPACE), 0);
     DONE(cix_put(SPACE, 7, 1, 100, 9, 0), 1);
     CUT(cix_commit(IMAGE, SPACE, 200), 200);
@@ -177,7 +177,7 @@ static void spoiled_mark(void) {
 /* The sixth record of 11 finds no room behind 9, so 9 is laid at 0 and 11 behind it. */
 static void laid_afresh(void) {
     uint8_t lists[2][48];
-    DONE(cix_format(IMAGE, ENTRIES, PAGES, CIX_ALL), sizeof image + 1);
+    DONE(cix_format(IMAGE, ENTRIES, PAGES, CIX_STEP_FINE, CIX_ALL), sizeof image + 1);
     DONE(cix_begin(IMAGE, SPACE), 0);
     DONE(cix_put(SPACE, 7, 1, 100, 9, 0), 1);
     for (uint32_t i = 1; i <= 6; i++)
@@ -198,9 +198,54 @@ static void laid_afresh(void) {
     REFUSED(cix_put(SPACE, 13, 1, 100, 9, 0), CIX_NO_ROOM);
 }
 
+/* Numbers that are no step code. */
+static void no_codes(void) {
+    static const uint32_t codes[] = {2, 255, 256, 257, 1u << 16, UINT32_MAX};
+    uint8_t before[sizeof image];
+    memcpy(before, image, sizeof image);
+    for (size_t j = 0; j < sizeof codes / sizeof *codes; j++)
+        REFUSED(cix_format(IMAGE, ENTRIES, PAGES, codes[j], CIX_ALL), CIX_SIZES);
+    check("image", memcmp(before, image, sizeof image), 0, __LINE__);
+}
+
+/* Blocks of 4, 7 and 11 records: 7's list changes class with its fifth record and its eighth. */
+static void coarse_step(void) {
+    DONE(cix_format(IMAGE, ENTRIES, PAGES, CIX_STEP_COARSE, CIX_ALL), sizeof image + 1);
+    DONE(cix_begin(IMAGE, SPACE), 0);
+    DONE(cix_put(SPACE, 7, 1, 100, 9, 0), 1);
+    DONE(cix_put(SPACE, 9, 1, 100, 9, 0), 1);
+    for (uint32_t i = 1; i <= 6; i++) {
+        check("cell of 7", cell(7), i <= 4 ? 0 : 5, __LINE__);
+        DONE(cix_put(SPACE, 7, 1, 100 + i, 9, 0), 1 + i);
+    }
+    check("cell of 9", cell(9), 0, __LINE__);
+    REFUSED(cix_put(SPACE, 7, 1, 107, 9, 0), CIX_NO_ROOM);
+    DONE(cix_drop_tag(SPACE, 9), 0);
+    check("cell of 7", cell(7), 5, __LINE__);
+    for (uint32_t i = 7; i <= 10; i++)
+        DONE(cix_put(SPACE, 7, 1, 100 + i, 9, 0), 1 + i);
+    check("cell of 7", cell(7), 0, __LINE__);
+    REFUSED(cix_put(SPACE, 7, 1, 111, 9, 0), CIX_NO_ROOM);
+    DONE(cix_commit(IMAGE, SPACE, CIX_ALL), 4 + 130 * 4);
+    DONE(cix_count_image(IMAGE, 7), 11);
+}
+
+/* A workspace of the other step, committed: the image has it then. */
+static void other_step(void) {
+    uint8_t fine[sizeof image];
+    DONE(cix_format(fine, sizeof fine, ENTRIES, PAGES, CIX_STEP_FINE, CIX_ALL), sizeof fine + 1);
+    DONE(cix_commit(fine, sizeof fine, SPACE, CIX_ALL), 4 + 130 * 5);
+    DONE(cix_begin(fine, sizeof fine, SPACE), 0);
+    REFUSED(cix_put(SPACE, 7, 1, 111, 9, 0), CIX_NO_ROOM);
+    space[122] = CIX_STEP_FINE;
+    REFUSED(cix_count_space(SPACE, 7), CIX_UNSOUND_SPACE);
+    space[122] = 2;
+    REFUSED(cix_commit(fine, sizeof fine, SPACE, CIX_ALL), CIX_UNSOUND_SPACE);
+}
+
 int main(void) {
     no_bytes();
-    DONE(cix_format(IMAGE, ENTRIES, PAGES, CIX_ALL), sizeof image + 1);
+    DONE(cix_format(IMAGE, ENTRIES, PAGES, CIX_STEP_FINE, CIX_ALL), sizeof image + 1);
     DONE(cix_begin(IMAGE, SPACE), 0);
     short_lengths();
     long_lengths();
@@ -209,6 +254,9 @@ int main(void) {
     cuts();
     spoiled_mark();
     laid_afresh();
+    no_codes();
+    coarse_step();
+    other_step();
     printf("C: %d checks, %d failed\n", checked, failed);
     return failed != 0;
 }

@@ -2,32 +2,50 @@
 
 const CLASSES: usize = 30;
 const LONGEST: usize = 989;
+/// The step code's byte.
+const STEP: usize = 122;
 const DICTIONARY: usize = 128;
 const AREA: usize = 1664;
 
-/// The cells of a block, by class.
-pub const SIZE: [usize; CLASSES] = {
-    let mut all = [5; CLASSES];
+/// A step: the cells of a block by class, and the class by record count. Classes that a coarse step has not are
+/// as large as its last.
+pub struct Step {
+    pub size: [usize; CLASSES],
+    class: [u8; LONGEST + 1],
+}
+
+/// Capacities rise by times / parts and end at the longest list.
+const fn step(times: usize, parts: usize) -> Step {
+    let mut s = Step { size: [5; CLASSES], class: [0; LONGEST + 1] };
     let mut c = 1;
     while c < CLASSES {
-        all[c] = ((all[c - 1] - 1) * 25 + 20) / 21 + 1;
+        let capacity = ((s.size[c - 1] - 1) * times).div_ceil(parts);
+        s.size[c] = 1 + if capacity < LONGEST { capacity } else { LONGEST };
         c += 1;
     }
-    all
-};
-
-const CLASS: [u8; LONGEST + 1] = {
-    let mut all = [0; LONGEST + 1];
     let (mut n, mut c) = (0, 0);
     while n <= LONGEST {
-        if n >= SIZE[c as usize] {
+        if n >= s.size[c as usize] {
             c += 1;
         }
-        all[n] = c;
+        s.class[n] = c;
         n += 1;
     }
-    all
-};
+    s
+}
+
+pub static FINE: Step = step(25, 21);
+pub static COARSE: Step = step(31, 20);
+
+/// The step of a home whose code is 0 or 1.
+#[inline]
+fn step_of(h: &[u8]) -> &'static Step {
+    if h[STEP] == 0 {
+        &FINE
+    } else {
+        &COARSE
+    }
+}
 
 #[inline]
 fn two(b: &[u8], at: usize) -> usize {
@@ -83,10 +101,10 @@ fn at(cell: usize) -> usize {
     AREA + 8 * cell
 }
 
-fn blocks_sound(zone: &[u8], c: usize) -> bool {
-    for block in zone.chunks_exact(8 * SIZE[c]) {
+fn blocks_sound(zone: &[u8], step: &Step, c: usize) -> bool {
+    for block in zone.chunks_exact(8 * step.size[c]) {
         let n = two(block, 4);
-        if n == 0 || n > LONGEST || CLASS[n] as usize != c || two(block, 6) != 0 {
+        if n == 0 || n > LONGEST || step.class[n] as usize != c || two(block, 6) != 0 {
             return false;
         }
         let (list, rest) = block[8..].split_at(8 * n);
@@ -97,7 +115,7 @@ fn blocks_sound(zone: &[u8], c: usize) -> bool {
     true
 }
 
-fn dictionary_sound(h: &[u8], tags: usize) -> bool {
+fn dictionary_sound(h: &[u8], step: &Step, tags: usize) -> bool {
     let cells = (h.len() - AREA) / 8;
     let mut low = 0u64;
     for e in h[DICTIONARY..DICTIONARY + 6 * tags].chunks_exact(6) {
@@ -111,9 +129,9 @@ fn dictionary_sound(h: &[u8], tags: usize) -> bool {
         if n > LONGEST || four(header, 0) != tag {
             return false;
         }
-        let c = CLASS[n] as usize;
-        let (first, count) = zone(h, c);
-        if cell < first || cell >= first + count * SIZE[c] || (cell - first) % SIZE[c] != 0 {
+        let c = step.class[n] as usize;
+        let (size, (first, count)) = (step.size[c], zone(h, c));
+        if cell < first || cell >= first + count * size || (cell - first) % size != 0 {
             return false;
         }
     }
@@ -126,9 +144,10 @@ pub fn sound(h: &[u8]) -> bool {
         return false;
     }
     let (tags, cells) = (two(h, 0), (h.len() - AREA) / 8);
-    if tags > 256 || !zero(&h[122..128]) {
+    if tags > 256 || h[STEP] > 1 || !zero(&h[STEP + 1..DICTIONARY]) {
         return false;
     }
+    let step = step_of(h);
     let (mut end, mut blocks) = (0, 0);
     for c in 0..CLASSES {
         let (first, count) = zone(h, c);
@@ -138,17 +157,17 @@ pub fn sound(h: &[u8]) -> bool {
             }
             continue;
         }
-        let stop = first + count * SIZE[c];
-        if first < end || first - end >= SIZE[c] || stop > cells || !zero(&h[at(end)..at(first)]) {
+        let stop = first + count * step.size[c];
+        if first < end || first - end >= step.size[c] || stop > cells || !zero(&h[at(end)..at(first)]) {
             return false;
         }
-        if !blocks_sound(&h[at(first)..at(stop)], c) {
+        if !blocks_sound(&h[at(first)..at(stop)], step, c) {
             return false;
         }
         blocks += count;
         end = stop;
     }
-    blocks == tags && zero(&h[at(end)..]) && dictionary_sound(h, tags)
+    blocks == tags && zero(&h[at(end)..]) && dictionary_sound(h, step, tags)
 }
 
 // ---- reads
@@ -259,39 +278,49 @@ pub fn begin(image: &[u8], space: &mut [u8]) -> Result<(), u8> {
 
 // ---- put
 
-type Table = [(usize, usize); CLASSES];
+/// A home's zone table: first cell and block count by class; and the cells of a block.
+#[derive(Clone, Copy)]
+struct Table {
+    zones: [(usize, usize); CLASSES],
+    size: &'static [usize; CLASSES],
+}
 
 fn table(h: &[u8]) -> Table {
-    std::array::from_fn(|c| zone(h, c))
+    Table { zones: std::array::from_fn(|c| zone(h, c)), size: &step_of(h).size }
 }
 
-fn end_below(t: &Table, c: usize) -> usize {
-    for d in (0..c).rev() {
-        if t[d].1 > 0 {
-            return t[d].0 + t[d].1 * SIZE[d];
+impl Table {
+    fn end(&self, c: usize) -> usize {
+        self.zones[c].0 + self.zones[c].1 * self.size[c]
+    }
+
+    fn end_below(&self, c: usize) -> usize {
+        (0..c).rev().find(|&d| self.zones[d].1 > 0).map_or(0, |d| self.end(d))
+    }
+
+    fn next_above(&self, c: usize) -> Option<usize> {
+        (c + 1..CLASSES).find(|&d| self.zones[d].1 > 0)
+    }
+
+    /// Whether blocks above can make room for one of class c at a cell.
+    fn has_room(&self, c: usize, cell: usize, cells: usize) -> bool {
+        match self.next_above(c) {
+            None => cell + self.size[c] <= cells,
+            Some(d) if cell + self.size[c] <= self.zones[d].0 => true,
+            Some(d) => self.has_room(d, self.lifted_to(c, cell, d), cells),
         }
     }
-    0
-}
 
-fn next_above(t: &Table, c: usize) -> Option<usize> {
-    (c + 1..CLASSES).find(|&d| t[d].1 > 0)
-}
-
-/// Whether blocks above can make room for one of class c at a cell.
-fn has_room(t: &Table, c: usize, cell: usize, cells: usize) -> bool {
-    match next_above(t, c) {
-        None => cell + SIZE[c] <= cells,
-        Some(d) if cell + SIZE[c] <= t[d].0 => true,
-        Some(d) => has_room(t, d, lifted_to(t, c, cell, d), cells),
+    fn lifted_to(&self, c: usize, cell: usize, d: usize) -> usize {
+        if self.zones[d].1 == 1 {
+            cell + self.size[c]
+        } else {
+            self.end(d)
+        }
     }
-}
 
-fn lifted_to(t: &Table, c: usize, cell: usize, d: usize) -> usize {
-    if t[d].1 == 1 {
-        cell + SIZE[c]
-    } else {
-        t[d].0 + t[d].1 * SIZE[d]
+    fn total(&self) -> usize {
+        (0..CLASSES).map(|c| self.zones[c].1 * self.size[c]).sum()
     }
 }
 
@@ -308,51 +337,53 @@ fn move_block(h: &mut [u8], from: usize, to: usize, size: usize) {
 }
 
 fn make_room(h: &mut [u8], t: &mut Table, c: usize, cell: usize) {
-    let Some(d) = next_above(t, c) else { return };
-    if cell + SIZE[c] <= t[d].0 {
+    let Some(d) = t.next_above(c) else { return };
+    if cell + t.size[c] <= t.zones[d].0 {
         return;
     }
-    let to = lifted_to(t, c, cell, d);
+    let to = t.lifted_to(c, cell, d);
     make_room(h, t, d, to);
-    let (first, count) = t[d];
-    move_block(h, first, to, SIZE[d]);
-    t[d].0 = if count == 1 { to } else { first + SIZE[d] };
-    set_zone(h, d, t[d].0, count);
+    let (first, count) = t.zones[d];
+    move_block(h, first, to, t.size[d]);
+    t.zones[d].0 = if count == 1 { to } else { first + t.size[d] };
+    set_zone(h, d, t.zones[d].0, count);
 }
 
 /// Makes room for a block of class c, counts it in, and answers its cell.
 fn place(h: &mut [u8], t: &mut Table, c: usize) -> usize {
-    let cell = end_below(t, c + 1);
+    let cell = t.end_below(c + 1);
     make_room(h, t, c, cell);
-    t[c] = (if t[c].1 == 0 { cell } else { t[c].0 }, t[c].1 + 1);
-    set_zone(h, c, t[c].0, t[c].1);
+    let (first, count) = t.zones[c];
+    t.zones[c] = (if count == 0 { cell } else { first }, count + 1);
+    set_zone(h, c, t.zones[c].0, t.zones[c].1);
     cell
 }
 
 /// Takes a block of class c out and closes the gaps above.
 fn take_out(h: &mut [u8], t: &mut Table, c: usize, cell: usize) {
-    t[c].1 -= 1;
-    let last = t[c].0 + t[c].1 * SIZE[c];
+    t.zones[c].1 -= 1;
+    let (last, size) = (t.end(c), t.size[c]);
     if last == cell {
-        h[at(cell)..at(cell + SIZE[c])].fill(0);
+        h[at(cell)..at(cell + size)].fill(0);
     } else {
-        move_block(h, last, cell, SIZE[c]);
+        move_block(h, last, cell, size);
     }
-    set_zone(h, c, t[c].0, t[c].1);
+    set_zone(h, c, t.zones[c].0, t.zones[c].1);
     for d in c + 1..CLASSES {
-        while t[d].1 > 0 && t[d].0 - end_below(t, d) >= SIZE[d] {
-            move_block(h, t[d].0 + (t[d].1 - 1) * SIZE[d], t[d].0 - SIZE[d], SIZE[d]);
-            t[d].0 -= SIZE[d];
-            set_zone(h, d, t[d].0, t[d].1);
+        let size = t.size[d];
+        while t.zones[d].1 > 0 && t.zones[d].0 - t.end_below(d) >= size {
+            move_block(h, t.end(d) - size, t.zones[d].0 - size, size);
+            t.zones[d].0 -= size;
+            set_zone(h, d, t.zones[d].0, t.zones[d].1);
         }
     }
 }
 
-/// Moves the blocks of a zone of class c and corrects their dictionary entries; what they left stays.
-fn move_zone(h: &mut [u8], (first, count): (usize, usize), to: usize, c: usize) {
-    h.copy_within(at(first)..at(first + count * SIZE[c]), at(to));
+/// Moves the blocks of a zone and corrects their dictionary entries; what they left stays.
+fn move_zone(h: &mut [u8], (first, count): (usize, usize), to: usize, size: usize) {
+    h.copy_within(at(first)..at(first + count * size), at(to));
     for i in 0..count {
-        let cell = to + i * SIZE[c];
+        let cell = to + i * size;
         if let Ok(e) = find(h, four(h, at(cell))) {
             set_two(h, DICTIONARY + 6 * e + 4, cell);
         }
@@ -363,24 +394,24 @@ fn move_zone(h: &mut [u8], (first, count): (usize, usize), to: usize, c: usize) 
 /// its cell. Each zone moves once: those that go up from the highest on, then the others from the lowest.
 fn lay_afresh(h: &mut [u8], t: &mut Table, c: usize) -> usize {
     let old = *t;
-    t[c].1 += 1;
+    t.zones[c].1 += 1;
     let mut end = 0;
     for d in 0..CLASSES {
-        t[d].0 = end;
-        end += t[d].1 * SIZE[d];
-        set_zone(h, d, t[d].0, t[d].1);
+        t.zones[d].0 = end;
+        end = t.end(d);
+        set_zone(h, d, t.zones[d].0, t.zones[d].1);
     }
-    for d in (0..CLASSES).rev().filter(|&d| t[d].0 > old[d].0) {
-        move_zone(h, old[d], t[d].0, d);
+    for d in (0..CLASSES).rev().filter(|&d| t.zones[d].0 > old.zones[d].0) {
+        move_zone(h, old.zones[d], t.zones[d].0, t.size[d]);
     }
-    for d in (0..CLASSES).filter(|&d| t[d].0 < old[d].0) {
-        move_zone(h, old[d], t[d].0, d);
+    for d in (0..CLASSES).filter(|&d| t.zones[d].0 < old.zones[d].0) {
+        move_zone(h, old.zones[d], t.zones[d].0, t.size[d]);
     }
-    let old_end = end_below(&old, CLASSES);
+    let old_end = old.end_below(CLASSES);
     if end < old_end {
         h[at(end)..at(old_end)].fill(0);
     }
-    t[c].0 + old[c].1 * SIZE[c]
+    t.zones[c].0 + old.zones[c].1 * t.size[c]
 }
 
 /// How a put ended: the list's class stayed, its block found room, or all zones were laid out afresh.
@@ -393,19 +424,15 @@ pub enum Way {
 
 /// Places a block of class c or lays all zones out afresh; answers its cell.
 fn settle(h: &mut [u8], t: &mut Table, c: usize, cells: usize) -> (usize, Way) {
-    if has_room(t, c, end_below(t, c + 1), cells) {
+    if t.has_room(c, t.end_below(c + 1), cells) {
         (place(h, t, c), Way::Placed)
     } else {
         (lay_afresh(h, t, c), Way::Afresh)
     }
 }
 
-fn total(t: &Table) -> usize {
-    (0..CLASSES).map(|c| t[c].1 * SIZE[c]).sum()
-}
-
-fn write_block(h: &mut [u8], cell: usize, c: usize, tag: u32, list: &[u8]) {
-    let b = &mut h[at(cell)..at(cell + SIZE[c])];
+fn write_block(h: &mut [u8], cell: usize, size: usize, tag: u32, list: &[u8]) {
+    let b = &mut h[at(cell)..at(cell + size)];
     b[..4].copy_from_slice(&tag.to_be_bytes());
     set_two(b, 4, list.len() / 8);
     b[6..8].fill(0);
@@ -413,14 +440,14 @@ fn write_block(h: &mut [u8], cell: usize, c: usize, tag: u32, list: &[u8]) {
     b[8 + list.len()..].fill(0);
 }
 
-/// Adds a tag as the i-th, with its block of class c.
-fn add_tag(h: &mut [u8], i: usize, cell: usize, c: usize, tag: u32, list: &[u8]) {
+/// Adds a tag as the i-th, with its block.
+fn add_tag(h: &mut [u8], i: usize, cell: usize, size: usize, tag: u32, list: &[u8]) {
     let (entry, tags) = (DICTIONARY + 6 * i, two(h, 0));
     h.copy_within(entry..DICTIONARY + 6 * tags, entry + 6);
     h[entry..entry + 4].copy_from_slice(&tag.to_be_bytes());
     set_two(h, entry + 4, cell);
     set_two(h, 0, tags + 1);
-    write_block(h, cell, c, tag, list);
+    write_block(h, cell, size, tag, list);
 }
 
 /// A workspace of blocks of these classes, which rise, without gaps. Tags count from 0, and each block is
@@ -430,7 +457,7 @@ pub fn packed(pages: usize, classes: &[usize], records: &[u8]) -> Vec<u8> {
     let mut t = table(&h);
     for (i, &c) in classes.iter().enumerate() {
         let cell = place(&mut h, &mut t, c);
-        add_tag(&mut h, i, cell, c, i as u32, &records[..8 * (SIZE[c] - 1)]);
+        add_tag(&mut h, i, cell, t.size[c], i as u32, &records[..8 * (t.size[c] - 1)]);
     }
     h
 }
@@ -456,11 +483,11 @@ pub fn put_by(space: &mut [u8], tag: u32, r: [u8; 8]) -> Result<(u32, Way), u8> 
             return Err(11);
         }
         let mut t = table(space);
-        if total(&t) + SIZE[0] > cells {
+        if t.total() + t.size[0] > cells {
             return Err(12);
         }
         let (cell, way) = settle(space, &mut t, 0, cells);
-        add_tag(space, i, cell, 0, tag, &r);
+        add_tag(space, i, cell, t.size[0], tag, &r);
         return Ok((1, way));
     };
     let entry = DICTIONARY + 6 * i;
@@ -486,7 +513,8 @@ pub fn put_by(space: &mut [u8], tag: u32, r: [u8; 8]) -> Result<(u32, Way), u8> 
     if n == LONGEST {
         return Err(10);
     }
-    let (old, new) = (CLASS[n] as usize, CLASS[n + 1] as usize);
+    let class = &step_of(space).class;
+    let (old, new) = (class[n] as usize, class[n + 1] as usize);
     if old == new {
         space.copy_within(there..a + 8 + 8 * n, there + 8);
         space[there..there + 8].copy_from_slice(&r);
@@ -494,7 +522,7 @@ pub fn put_by(space: &mut [u8], tag: u32, r: [u8; 8]) -> Result<(u32, Way), u8> 
         return Ok((n as u32 + 1, Way::Kept));
     }
     let mut t = table(space);
-    if total(&t) - SIZE[old] + SIZE[new] > cells {
+    if t.total() - t.size[old] + t.size[new] > cells {
         return Err(12);
     }
     let mut aside = [0u8; 8 * LONGEST];
@@ -503,7 +531,7 @@ pub fn put_by(space: &mut [u8], tag: u32, r: [u8; 8]) -> Result<(u32, Way), u8> 
     aside[8 * rank + 8..8 * n + 8].copy_from_slice(&space[there..a + 8 + 8 * n]);
     take_out(space, &mut t, old, cell);
     let (cell, way) = settle(space, &mut t, new, cells);
-    write_block(space, cell, new, tag, &aside[..8 * n + 8]);
+    write_block(space, cell, t.size[new], tag, &aside[..8 * n + 8]);
     set_two(space, entry + 4, cell);
     Ok((n as u32 + 1, way))
 }

@@ -1,10 +1,12 @@
 //! Times the library against memcmp, hand-written Rust and SQLite, and prints tables of ratios:
-//! `figures [REPEATS]`. Each ratio is a median over repeats in which the two take turns.
+//! `figures [REPEATS]`. Each ratio is a median over repeats in which the two take turns. Then it counts the
+//! blocks that puts move with either step.
 mod hand;
+mod moves;
 #[cfg(sqlite)]
 mod sqlite;
 
-use cix::{Record, Stored};
+use cix::{Record, Step, Stored};
 use hand::Way;
 use std::hint::black_box;
 use std::time::Instant;
@@ -22,6 +24,7 @@ fn main() {
     by_size(repeats);
     laid_afresh(repeats);
     placing(repeats);
+    moves::table();
 }
 
 // ---- timing
@@ -136,7 +139,7 @@ fn filled_with(tags: u32, pages: u32, fill: Fill) -> Bench {
         tags,
         rng: Random(7),
     };
-    cix::format(&mut b.image, entries, pages, cix::ALL).unwrap();
+    cix::format(&mut b.image, entries, pages, Step::Fine, cix::ALL).unwrap();
     cix::begin(&b.image, &mut b.space).unwrap();
     let cells = match fill {
         Fill::Empty => 0,
@@ -488,7 +491,7 @@ fn packed(others: usize, c: usize) -> (Vec<u8>, (u32, Record)) {
     classes.insert(tag, c);
     let call = |second, phone| Record { level: 1, second, phone, minutes: 0 };
     let records: Vec<u8> = (0..989).flat_map(|second| bytes(call(second, 0))).collect();
-    (hand::packed(1024, &classes, &records), (tag as u32, call(hand::SIZE[c] as u32 / 2, 1)))
+    (hand::packed(1024, &classes, &records), (tag as u32, call(hand::FINE.size[c] as u32 / 2, 1)))
 }
 
 fn placing(repeats: usize) {
@@ -496,10 +499,10 @@ fn placing(repeats: usize) {
     println!("| calls | lists beside | put | soundness test | difference |");
     println!("|---|---|---|---|---|");
     for c in [0, 28] {
-        for others in [hand::SIZE.len(), 0] {
+        for others in [hand::FINE.size.len(), 0] {
             let (space, (tag, call)) = packed(others, c);
             assert!(way(&space, (tag, call)) == Some(Way::Placed), "the put places no block");
-            let n = hand::SIZE[c] as u32;
+            let n = hand::FINE.size[c] as u32;
             let race = race_on(&space, &[&|space| assert_eq!(cix::put(space, tag, call), Ok(n))], repeats);
             let [put, sound, edit] = [race.time(2), race.time(1), race.above(2, 1)].map(|t| t / 1000.0);
             println!("| {} to {n} | {others} | {put:.2} | {sound:.2} | {edit:.2} |", n - 1);

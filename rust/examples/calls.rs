@@ -1,11 +1,11 @@
 //! Puts three calls on record, has the power fail in a commit, recovers, and lists the calls.
-use cix::{Record, Refusal, Stored};
+use cix::{Record, Refusal, Step, Stored};
 
 fn main() -> Result<(), Refusal> {
     let (entries, pages) = (90, 64);
     let mut image = vec![0; cix::image_bytes(entries, pages)];
     let mut space = vec![0; cix::space_bytes(pages)];
-    cix::format(&mut image, entries, pages, cix::ALL)?;
+    cix::format(&mut image, entries, pages, Step::Fine, cix::ALL)?;
 
     for (second, phone) in [(100, 9), (100, 3), (50, 9)] {
         cix::begin(&image, &mut space)?;

@@ -1,6 +1,13 @@
 // The library's functions, as include/cix.h declares them.
 extern "C" {
-    pub fn cix_format(image: *mut u8, image_len: usize, entries: u32, pages: u32, stores: u32) -> u64;
+    pub fn cix_format(
+        image: *mut u8,
+        image_len: usize,
+        entries: u32,
+        pages: u32,
+        step: u32,
+        stores: u32,
+    ) -> u64;
     pub fn cix_begin(image: *const u8, image_len: usize, space: *mut u8, space_len: usize) -> u64;
     pub fn cix_put(
         space: *mut u8,

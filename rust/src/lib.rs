@@ -9,12 +9,12 @@
 //! right is refused, and a refused call changes no byte.
 //!
 //! ```
-//! use cix::{Record, Stored};
+//! use cix::{Record, Step, Stored};
 //!
 //! let (entries, pages) = (90, 64);
 //! let mut image = vec![0; cix::image_bytes(entries, pages)];
 //! let mut space = vec![0; cix::space_bytes(pages)];
-//! cix::format(&mut image, entries, pages, cix::ALL)?;
+//! cix::format(&mut image, entries, pages, Step::Fine, cix::ALL)?;
 //!
 //! cix::begin(&image, &mut space)?;
 //! let call = Record { level: 1, second: 100, phone: 9, minutes: 0 };
@@ -61,6 +61,17 @@ pub fn records(bytes: &[u8]) -> impl Iterator<Item = Record> + '_ {
     bytes.chunks_exact(8).map(|b| Record::from_bytes(b.try_into().unwrap()))
 }
 
+/// How a block's capacity grows when its list does. An index keeps its step until a workspace with the
+/// other one is committed.
+#[derive(Clone, Copy, Debug, PartialEq, Eq)]
+pub enum Step {
+    /// 4, 5, 6, 8, 10, .. 989 records: each the one before times 25/21.
+    Fine = 0,
+    /// 4, 7, 11, 18, 28, .. 989 records: each the one before times 31/20. Fewer blocks move, and they
+    /// take more space.
+    Coarse = 1,
+}
+
 /// Why a call is refused. No lent byte is then changed.
 #[derive(Clone, Copy, Debug, PartialEq, Eq)]
 pub enum Refusal {
@@ -96,7 +107,7 @@ const REFUSALS: [(Refusal, &str); 15] = [
     (Refusal::TagsFull, "there are 256 tags"),
     (Refusal::NoRoom, "all blocks together would not fit"),
     (Refusal::LogShort, "more pages differ than the log has entries"),
-    (Refusal::Sizes, "sizes out of range, or the length does not match"),
+    (Refusal::Sizes, "sizes or step code out of range, or the length does not match"),
     (Refusal::OutputShort, "the output is shorter than the records to write"),
 ];
 
@@ -156,8 +167,27 @@ pub const fn image_bytes(entries: u32, pages: u32) -> usize {
 }
 
 /// Makes the image an empty index: 1 to 1,024 record pages, 1 to 26 + pages log entries.
-pub fn format(image: &mut [u8], entries: u32, pages: u32, stores: u32) -> Result<Stored> {
-    stored(unsafe { ffi::cix_format(image.as_mut_ptr(), image.len(), entries, pages, stores) })
+///
+/// ```
+/// use cix::{Record, Refusal, Step};
+///
+/// let mut image = vec![0; cix::image_bytes(28, 2)];
+/// let mut space = vec![0; cix::space_bytes(2)];
+/// let call = |second| Record { level: 1, second, phone: 9, minutes: 0 };
+/// for (step, most) in [(Step::Fine, 15), (Step::Coarse, 11)] {
+///     cix::format(&mut image, 28, 2, step, cix::ALL)?;
+///     cix::begin(&image, &mut space)?;
+///     for n in 1..=most {
+///         assert_eq!(cix::put(&mut space, 7, call(n)), Ok(n));
+///     }
+///     assert_eq!(cix::put(&mut space, 7, call(0)), Err(Refusal::NoRoom));
+/// }
+/// # Ok::<(), Refusal>(())
+/// ```
+pub fn format(image: &mut [u8], entries: u32, pages: u32, step: Step, stores: u32) -> Result<Stored> {
+    stored(unsafe {
+        ffi::cix_format(image.as_mut_ptr(), image.len(), entries, pages, step as u32, stores)
+    })
 }
 
 /// Copies the image's index to a workspace, whose old bytes do not matter.
@@ -221,7 +251,7 @@ pub fn drop_tag(space: &mut [u8], tag: u32) -> Result<u32> {
     counted(unsafe { ffi::cix_drop_tag(space.as_mut_ptr(), space.len(), tag) })
 }
 
-/// Makes the workspace the image's index. However early it is cut, the index found afterwards is the
+/// Makes the workspace the image's index, its step too. However early it is cut, the index found afterwards is the
 /// old one or the new one, after [`recover`] if a read says [`Refusal::Unrecovered`].
 pub fn commit(image: &mut [u8], space: &[u8], stores: u32) -> Result<Stored> {
     stored(unsafe {
@@ -233,11 +263,11 @@ pub fn commit(image: &mut [u8], space: &[u8], stores: u32) -> Result<Stored> {
 /// neither 0 nor 165; stores nothing where the mark is 0. It may be cut itself.
 ///
 /// ```
-/// use cix::{Refusal, Stored};
+/// use cix::{Refusal, Step, Stored};
 ///
 /// let mut image = vec![0; cix::image_bytes(28, 2)];
 /// let mut space = vec![0; cix::space_bytes(2)];
-/// cix::format(&mut image, 28, 2, cix::ALL)?;
+/// cix::format(&mut image, 28, 2, Step::Fine, cix::ALL)?;
 /// image[10] = 9; // the mark, caught halfway
 /// assert_eq!(cix::begin(&image, &mut space), Err(Refusal::Unrecovered));
 /// assert_eq!(cix::recover(&mut image, cix::ALL), Ok(Stored::Done(1)));

@@ -38,8 +38,7 @@ const TOLD: [Told; 5] = [Told::Value(0), Told::Value(MARKED), Told::Stood, Told:
 /// Every cut of a commit of one page, every value at the stores of its mark, and every cut of a commit
 /// of three pages.
 pub fn every_cut(tally: &mut Tally) -> Found {
-    let mut three = Pair::formatted(28, 2, tally);
-    three.begin(tally);
+    let mut three = Pair::begun(2, 0, tally);
     three.put(7, [1, 0, 0, 0, 100, 0, 9, 0], tally);
     let mut one = three.clone();
     one.commit(cix::ALL, Told::Stood, tally);
@@ -55,13 +54,13 @@ pub fn every_cut(tally: &mut Tally) -> Found {
 }
 
 /// The commit cut after each of `made` stores, then a recovery cut at its last store and at each
-/// `step` stores before. Each byte caught holds each of `told`. The lists of `same` are the old ones in
+/// `stride` stores before. Each byte caught holds each of `told`. The lists of `same` are the old ones in
 /// whichever index is found.
 pub fn cuts(
     p: &Pair,
     made: impl IntoIterator<Item = u32>,
     told: &[Told],
-    step: usize,
+    stride: usize,
     same: &[u32],
     counts: &mut Found,
     tally: &mut Tally,
@@ -97,7 +96,7 @@ pub fn cuts(
                 }
             };
             count(&cut, tally);
-            for m in (0..book(&cut).need()).rev().step_by(step) {
+            for m in (0..book(&cut).need()).rev().step_by(stride) {
                 for &second in told {
                     let mut again = cut.clone();
                     again.recover(m, second, tally);
@@ -114,7 +113,7 @@ pub fn cuts(
 pub fn list(rng: &mut Random, tally: &mut Tally) {
     let pages = 1 + if rng.one_in(4) { rng.below(40) } else { rng.below(4) };
     let entries = if rng.one_in(2) { 26 + pages } else { 1 + rng.below(26 + pages) };
-    let mut p = Pair::formatted(entries, pages, tally);
+    let mut p = Pair::formatted(entries, pages, rng.below(2), tally);
     p.begin(tally);
     for _ in 0..rng.below(40) {
         p.put(rng.tag(6), rng.record(20), tally);
@@ -145,6 +144,9 @@ pub fn list(rng: &mut Random, tally: &mut Tally) {
             _ => {
                 if rng.one_in(2) {
                     p.space = book(&p).kept.clone();
+                }
+                if rng.one_in(8) {
+                    p.change_step(tally);
                 }
                 for _ in 0..rng.below(3) {
                     edit(&mut p, rng, 6, 20, tally);

@@ -4,11 +4,12 @@ use std::str::FromStr;
 
 const ENTRIES: u32 = 90;
 const PAGES: u32 = 64;
+const STEP: u32 = 0;
 
 /// All answers to an input. A line ends at a newline byte, not counted, or at the input's end.
 pub fn answers(input: &[u8]) -> Vec<u8> {
     let mut image = vec![0; cix::image_bytes(ENTRIES, PAGES)];
-    model::format(&image, ENTRIES, PAGES).unwrap().make(&mut image, u32::MAX);
+    model::format(&image, ENTRIES, PAGES, STEP).unwrap().make(&mut image, u32::MAX);
     let mut text = String::new();
     for line in input.split_inclusive(|&b| b == b'\n') {
         let line = line.strip_suffix(b"\n").unwrap_or(line);

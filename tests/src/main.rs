@@ -11,6 +11,7 @@ mod model;
 mod pair;
 mod random;
 mod spoiled;
+mod steps;
 
 use model::Of;
 use pair::{Pair, Told};
@@ -35,6 +36,7 @@ fn main() {
         caught::list(&mut rng, &mut tally);
     }
     println!("random lists with bytes caught halfway: {} calls, as the book foretells", tally.calls);
+    steps::formats(&mut tally);
     afresh::cases(&mut tally);
     let laid = afresh::nearly_full(calls / 10, &mut rng, &mut tally);
     println!("nearly full areas: {laid} puts laid all zones out afresh, 12 only where they do not fit");
@@ -43,7 +45,12 @@ fn main() {
         println!("every cut: {} times the old index is found, {} times the new one", found.old, found.new);
         let found = afresh::every_cut(&mut tally);
         println!("zones laid out afresh: {} times the old index, {} times the new one", found.old, found.new);
-        limits(&mut tally);
+        let found = steps::every_cut(&mut tally);
+        println!("the other step code: {} times the old index, {} times the new one", found.old, found.new);
+        steps::cut_formats(&mut tally);
+        steps::damage(&mut tally);
+        steps::bounds(&mut tally);
+        (0..2).for_each(|step| limits(step, &mut tally));
     }
     let enough = tally.calls + calls;
     while tally.calls < enough {
@@ -69,9 +76,8 @@ pub struct Tally {
 }
 
 /// A list of 989 records and one more, 256 tags and one more.
-fn limits(tally: &mut Tally) {
-    let mut p = Pair::formatted(1050, 1024, tally);
-    p.begin(tally);
+fn limits(step: u32, tally: &mut Tally) {
+    let mut p = Pair::begun(1024, step, tally);
     for i in 0..991u32 {
         let s = (i.min(989) * 7919 % 100_003).to_be_bytes();
         p.put(7, [1, s[0], s[1], s[2], s[3], 0, 9, 0], tally);
@@ -99,10 +105,10 @@ fn one_image(rng: &mut Random, tally: &mut Tally) {
     let entries = if rng.one_in(4) { 1 + rng.below(26 + pages) } else { 26 + pages };
     let mut p = Pair::blank(rng, entries, pages);
     tally.images += 1;
-    p.format(entries, pages, rng.allowance(68 * pages), tally);
-    p.format(rng.below(2 * (26 + pages)), pages + rng.below(2), cix::ALL, tally);
+    p.format(entries, pages, rng.any_step(), rng.allowance(p.image.len() as u32 + 2), tally);
+    p.format(rng.below(2 * (26 + pages)), pages + rng.below(2), rng.any_step(), cix::ALL, tally);
     p.recover(rng.allowance(100), rng.told(), tally);
-    p.format(entries, pages, cix::ALL, tally);
+    p.format(entries, pages, rng.below(2), cix::ALL, tally);
     p.open_book();
     let long = pages > 200 && rng.one_in(2);
     let tags = if long { 1 } else { [1, 2, 3, 6, 20, 300][rng.below(6) as usize] };
@@ -124,6 +130,7 @@ fn one_image(rng: &mut Random, tally: &mut Tally) {
             76..=87 => read(&mut p, rng, tags, tally),
             88 => spoiled(&p, rng, tags, seconds, tally),
             89 => shortened(&p, rng, tags, tally),
+            90 if pages <= 16 && rng.one_in(2) => p.change_step(tally),
             _ => p.put(tag, rng.record(seconds), tally),
         }
     }
@@ -165,10 +172,12 @@ fn spoiled(p: &Pair, rng: &mut Random, tags: u32, seconds: u32, tally: &mut Tall
         q.commit(rng.allowance(900), rng.told(), tally);
         q.book = None;
         for _ in 0..1 + rng.below(2) {
-            if rng.one_in(2) {
-                rng.spoil(&mut q.image);
-            } else {
-                rng.spoil(&mut q.space);
+            let home = q.image.len() - q.space.len();
+            match rng.below(6) {
+                0 => rng.spoil_step(&mut q.image[home..]),
+                1 => rng.spoil_step(&mut q.space),
+                2 | 3 => rng.spoil(&mut q.image),
+                _ => rng.spoil(&mut q.space),
             }
         }
         for _ in 0..3 {

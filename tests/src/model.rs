@@ -9,28 +9,34 @@ fn primary(r: &Rec) -> &[u8] {
     &r[..7]
 }
 
-pub const CLASSES: usize = 30;
+/// The classes that a home's zone table has entries for.
+const CLASSES: usize = 30;
+const LONGEST: usize = 989;
 
-/// A class's capacity: 4, then each the one before times 25/21, rounded up.
-pub fn capacity(class: usize) -> usize {
-    const ALL: [usize; CLASSES] = {
-        let mut all = [4; CLASSES];
-        let mut c = 1;
-        while c < CLASSES {
-            all[c] = (all[c - 1] * 25 + 20) / 21;
-            c += 1;
+/// Capacities by class: 4, then each the one before times a step, rounded up and ended at 989.
+const fn rising<const N: usize>(times: usize, parts: usize) -> [usize; N] {
+    let mut all = [4; N];
+    let mut c = 1;
+    while c < N {
+        all[c] = (all[c - 1] * times).div_ceil(parts);
+        if all[c] > LONGEST {
+            all[c] = LONGEST;
         }
-        all
-    };
-    ALL[class]
+        c += 1;
+    }
+    all
 }
 
-fn size(class: usize) -> usize {
-    capacity(class) + 1
-}
+const FINE: [usize; CLASSES] = rising(25, 21);
+const COARSE: [usize; 14] = rising(31, 20);
 
-fn class_of(records: usize) -> Option<usize> {
-    (0..CLASSES).find(|&c| capacity(c) >= records)
+/// A step code's capacities, if there is such a code.
+fn capacities(step: u32) -> Option<&'static [usize]> {
+    match step {
+        0 => Some(&FINE),
+        1 => Some(&COARSE),
+        _ => None,
+    }
 }
 
 fn two(b: &[u8], at: usize) -> usize {
@@ -60,11 +66,16 @@ pub struct Zone {
 #[derive(Clone)]
 pub struct Home {
     pages: usize,
-    pub zones: Vec<Zone>,
+    step: u8,
+    /// The capacities of the step's classes, and as many zones.
+    capacities: &'static [usize],
+    zones: Vec<Zone>,
     /// Whether a change has laid all zones out afresh.
     pub afresh: bool,
 }
 
+/// The byte of home that is the step code.
+pub const STEP: usize = 122;
 const DICTIONARY: usize = 128;
 const AREA: usize = 1664;
 
@@ -73,20 +84,35 @@ impl Home {
         8 * self.pages
     }
 
+    fn size(&self, class: usize) -> usize {
+        self.capacities[class] + 1
+    }
+
+    fn class_of(&self, records: usize) -> Option<usize> {
+        self.capacities.iter().position(|&n| n >= records)
+    }
+
     /// The home in these bytes, if they are sound.
     pub fn read(b: &[u8]) -> Option<Home> {
         let pages = (b.len() / 64).checked_sub(26)?;
         if b.len() % 64 != 0 || !(1..=1024).contains(&pages) {
             return None;
         }
-        let mut home = Home { pages, zones: vec![Zone::default(); CLASSES], afresh: false };
+        let step = b[STEP];
+        let capacities = capacities(step.into())?;
+        let zones = vec![Zone::default(); capacities.len()];
+        let mut home = Home { pages, step, capacities, zones, afresh: false };
         let tags = two(b, 0);
-        if tags > 256 || !zero(&b[122..128]) || !zero(&b[DICTIONARY + 6 * tags..AREA]) {
+        if tags > 256 || !zero(&b[STEP + 1..DICTIONARY]) || !zero(&b[DICTIONARY + 6 * tags..AREA]) {
             return None;
+        }
+        if !zero(&b[2 + 4 * capacities.len()..STEP]) {
+            return None; // classes that the step has not are empty
         }
         let mut starts = Vec::new();
         let mut end = 0;
-        for c in 0..CLASSES {
+        for c in 0..capacities.len() {
+            let size = home.size(c);
             let (first, count) = (two(b, 2 + 4 * c), two(b, 4 + 4 * c));
             if count == 0 {
                 if first != 0 {
@@ -94,8 +120,8 @@ impl Home {
                 }
                 continue;
             }
-            let stop = first + count * size(c);
-            if first < end || first - end >= size(c) || stop > home.cells() {
+            let stop = first + count * size;
+            if first < end || first - end >= size || stop > home.cells() {
                 return None;
             }
             if !zero(&b[AREA + 8 * end..AREA + 8 * first]) {
@@ -103,11 +129,11 @@ impl Home {
             }
             home.zones[c].first = first;
             for i in 0..count {
-                let cell = first + i * size(c);
+                let cell = first + i * size;
                 let at = AREA + 8 * cell;
-                let block = &b[at..at + 8 * size(c)];
+                let block = &b[at..at + 8 * size];
                 let n = two(block, 4);
-                if n == 0 || class_of(n) != Some(c) || !zero(&block[6..8]) || !zero(&block[8 + 8 * n..]) {
+                if n == 0 || home.class_of(n) != Some(c) || !zero(&block[6..8]) || !zero(&block[8 + 8 * n..]) {
                     return None;
                 }
                 let list: Vec<Rec> =
@@ -140,12 +166,13 @@ impl Home {
     /// The home's bytes.
     pub fn write(&self) -> Vec<u8> {
         let mut b = vec![0; 64 * (26 + self.pages)];
+        b[STEP] = self.step;
         let mut entries = Vec::new();
         for (c, z) in self.zones.iter().enumerate() {
             b[2 + 4 * c..4 + 4 * c].copy_from_slice(&(z.first as u16).to_be_bytes());
             b[4 + 4 * c..6 + 4 * c].copy_from_slice(&(z.blocks.len() as u16).to_be_bytes());
             for (i, block) in z.blocks.iter().enumerate() {
-                let cell = z.first + i * size(c);
+                let cell = z.first + i * self.size(c);
                 let at = AREA + 8 * cell;
                 b[at..at + 4].copy_from_slice(&block.tag.to_be_bytes());
                 b[at + 4..at + 6].copy_from_slice(&(block.list.len() as u16).to_be_bytes());
@@ -189,13 +216,13 @@ impl Home {
     /// Where a tag's records begin in home.
     fn place_of(&self, tag: u32) -> Option<usize> {
         let (c, i) = self.find(tag)?;
-        Some(AREA + 8 * (self.zones[c].first + i * size(c)) + 8)
+        Some(AREA + 8 * (self.zones[c].first + i * self.size(c)) + 8)
     }
 
     /// The end of the nearest nonempty zone below class c, or cell 0.
     fn end_below(&self, c: usize) -> usize {
         match (0..c).rev().find(|&d| !self.zones[d].blocks.is_empty()) {
-            Some(d) => self.zones[d].first + self.zones[d].blocks.len() * size(d),
+            Some(d) => self.zones[d].first + self.zones[d].blocks.len() * self.size(d),
             None => 0,
         }
     }
@@ -203,15 +230,16 @@ impl Home {
     /// Places a block of class c; false where there is no room, and the home is then to be thrown away.
     fn place(&mut self, c: usize, block: Block) -> bool {
         let at = self.end_below(c + 1);
-        let next = (c + 1..CLASSES).find(|&d| !self.zones[d].blocks.is_empty());
+        let next = (c + 1..self.zones.len()).find(|&d| !self.zones[d].blocks.is_empty());
         let limit = next.map_or(self.cells(), |d| self.zones[d].first);
         let lifted = match next {
-            _ if at + size(c) <= limit => None,
+            _ if at + self.size(c) <= limit => None,
             None => return false,
             Some(d) => {
+                let size = self.size(d);
                 let z = &mut self.zones[d];
                 let first = z.blocks.remove(0);
-                z.first = if z.blocks.is_empty() { 0 } else { z.first + size(d) };
+                z.first = if z.blocks.is_empty() { 0 } else { z.first + size };
                 Some((d, first))
             }
         };
@@ -241,9 +269,9 @@ impl Home {
     /// Lays all zones out from cell 0 without gaps; false where they do not fit.
     fn lay_afresh(&mut self) -> bool {
         let mut end = 0;
-        for (c, z) in self.zones.iter_mut().enumerate() {
+        for (z, capacity) in self.zones.iter_mut().zip(self.capacities) {
             z.first = if z.blocks.is_empty() { 0 } else { end };
-            end += z.blocks.len() * size(c);
+            end += z.blocks.len() * (capacity + 1);
         }
         self.afresh = true;
         end <= self.cells()
@@ -256,12 +284,13 @@ impl Home {
         if z.blocks.is_empty() {
             z.first = 0;
         }
-        for d in c + 1..CLASSES {
-            while !self.zones[d].blocks.is_empty() && self.zones[d].first - self.end_below(d) >= size(d) {
+        for d in c + 1..self.zones.len() {
+            let size = self.size(d);
+            while !self.zones[d].blocks.is_empty() && self.zones[d].first - self.end_below(d) >= size {
                 let z = &mut self.zones[d];
                 let last = z.blocks.pop().unwrap();
                 z.blocks.insert(0, last);
-                z.first -= size(d);
+                z.first -= size;
             }
         }
     }
@@ -274,7 +303,7 @@ impl Home {
             self.take_out(c, i);
             return true;
         }
-        let new = class_of(list.len()).unwrap();
+        let new = self.class_of(list.len()).unwrap();
         if let Some((c, i)) = old {
             if c == new {
                 self.zones[c].blocks[i].list = list;
@@ -314,7 +343,7 @@ pub fn put(space: &mut [u8], tag: u32, r: Rec) -> Counted {
     edit(space, tag, |home, list| {
         match list.binary_search_by(|x| primary(x).cmp(primary(&r))) {
             Ok(_) => Err(8),
-            Err(_) if list.len() == 989 => Err(10),
+            Err(_) if list.len() == LONGEST => Err(10),
             Err(_) if list.is_empty() && home.tags() == 256 => Err(11),
             Err(i) => Ok(list.insert(i, r)),
         }
@@ -476,15 +505,17 @@ impl Stores {
     }
 }
 
-pub fn format(image: &[u8], entries: u32, pages: u32) -> Result<Stores, u8> {
+pub fn format(image: &[u8], entries: u32, pages: u32, step: u32) -> Result<Stores, u8> {
     let (l, r) = (entries as usize, pages as usize);
-    if !sizes(l, r) || image.len() != length(l, r) {
+    if !sizes(l, r) || capacities(step).is_none() || image.len() != length(l, r) {
         return Err(14);
     }
     let mut empty = vec![0; image.len()];
     empty[..4].copy_from_slice(b"CIX1");
     empty[4..6].copy_from_slice(&(l as u16).to_be_bytes());
     empty[6..8].copy_from_slice(&(r as u16).to_be_bytes());
+    let home = home_at(&empty);
+    empty[home + STEP] = step as u8;
     let mut s = Stores::default();
     s.run(0, &[0]);
     s.run(1, &empty[1..]);

@@ -1,9 +1,9 @@
 //! An image and a workspace on which each call is made twice, by the library and by the model.
 use crate::book::Book;
-use crate::model::{self, Merge, Of, Rec, Stores};
+use crate::model::{self, Merge, Of, Rec, Stores, STEP};
 use crate::random::Random;
 use crate::Tally;
-use cix::{Record, Refusal, Stored};
+use cix::{Record, Refusal, Step, Stored};
 
 #[derive(Clone)]
 pub struct Pair {
@@ -32,6 +32,31 @@ fn stored(r: Result<Stored, Refusal>) -> model::Stored {
     })
 }
 
+extern "C" {
+    fn cix_format(image: *mut u8, image_len: usize, entries: u32, pages: u32, step: u32, stores: u32) -> u64;
+}
+
+/// The library's format with any step code, of which the wrapper takes 0 and 1 only.
+fn format(image: &mut [u8], entries: u32, pages: u32, step: u32, stores: u32) -> model::Stored {
+    match step {
+        0 => return stored(cix::format(image, entries, pages, Step::Fine, stores)),
+        1 => return stored(cix::format(image, entries, pages, Step::Coarse, stores)),
+        _ => (),
+    }
+    let answer = unsafe { cix_format(image.as_mut_ptr(), image.len(), entries, pages, step, stores) };
+    match answer >> 32 {
+        2 => Err(answer as u8),
+        kind => Ok((kind == 0, answer as u32)),
+    }
+}
+
+/// A home's dictionary: tags and cells.
+pub fn dictionary(home: &[u8]) -> Vec<(u32, u16)> {
+    let tags = u16::from_be_bytes([home[0], home[1]]) as usize;
+    let entry = |e: &[u8]| (u32::from_be_bytes([e[0], e[1], e[2], e[3]]), u16::from_be_bytes([e[4], e[5]]));
+    home[128..].chunks(6).take(tags).map(entry).collect()
+}
+
 impl Tally {
     /// Counts one call, whose answers by library and model must agree.
     fn same<T: PartialEq + std::fmt::Debug>(&mut self, call: &str, library: Result<T, u8>, model: Result<T, u8>) {
@@ -57,9 +82,16 @@ impl Pair {
         Pair { image, space, book: None }
     }
 
-    pub fn formatted(entries: u32, pages: u32, tally: &mut Tally) -> Pair {
+    pub fn formatted(entries: u32, pages: u32, step: u32, tally: &mut Tally) -> Pair {
         let mut p = Pair::blank(&mut Random::new(1), entries, pages);
-        p.format(entries, pages, cix::ALL, tally);
+        p.format(entries, pages, step, cix::ALL, tally);
+        p
+    }
+
+    /// A formatted one with the largest log, begun.
+    pub fn begun(pages: u32, step: u32, tally: &mut Tally) -> Pair {
+        let mut p = Pair::formatted(26 + pages, pages, step, tally);
+        p.begin(tally);
         p
     }
 
@@ -73,10 +105,10 @@ impl Pair {
         self.book = Some(Book::new(entries as usize, self.home()));
     }
 
-    pub fn format(&mut self, entries: u32, pages: u32, stores: u32, tally: &mut Tally) {
+    pub fn format(&mut self, entries: u32, pages: u32, step: u32, stores: u32, tally: &mut Tally) {
         let before = self.image.clone();
-        let l = stored(cix::format(&mut self.image, entries, pages, stores));
-        let m = model::format(&before, entries, pages);
+        let l = format(&mut self.image, entries, pages, step, stores);
+        let m = model::format(&before, entries, pages, step);
         self.same_stores("format", before, l, &m, stores, tally);
     }
 
@@ -120,6 +152,18 @@ impl Pair {
 
     pub fn drop_tag(&mut self, tag: u32, tally: &mut Tally) {
         self.edit("drop", tally, |s| cix::drop_tag(s, tag), |s| model::drop_tag(s, tag));
+    }
+
+    /// Makes the workspace one of the other step code, to which its lists are put, as far as they fit.
+    pub fn change_step(&mut self, tally: &mut Tally) {
+        let old = self.space.clone();
+        self.space.fill(0);
+        self.space[STEP] = old[STEP] ^ 1;
+        for (tag, _) in dictionary(&old) {
+            for r in cix::show_space(&old, tag).chunks(8) {
+                self.put(tag, r.try_into().unwrap(), tally);
+            }
+        }
     }
 
     pub fn commit(&mut self, stores: u32, told: Told, tally: &mut Tally) {

@@ -1,5 +1,5 @@
 //! Random choices from a seed.
-use crate::model::{Of, Rec, MARKED};
+use crate::model::{Of, Rec, MARKED, STEP};
 use crate::pair::{Pair, Told};
 
 pub struct Random(u64);
@@ -87,5 +87,22 @@ impl Random {
             2 => old ^ 1 << self.below(8),
             _ => self.next() as u8,
         };
+    }
+
+    /// A step code, or a number that is none.
+    pub fn any_step(&mut self) -> u32 {
+        match self.below(4) {
+            0 => [2, 255, 256, u32::MAX][self.below(4) as usize],
+            _ => self.below(2),
+        }
+    }
+
+    /// Spoils home's step code or a zero behind it.
+    pub fn spoil_step(&mut self, home: &mut [u8]) {
+        match self.below(4) {
+            0 | 1 => home[STEP] ^= 1,
+            2 => home[STEP] = self.next() as u8,
+            _ => home[STEP + 1 + self.below(5) as usize] = self.next() as u8,
+        }
     }
 }

@@ -1,6 +1,6 @@
 //! Images with a byte or two changed, and what another model of the specification answered on them:
 //! `tests/spoiled.txt`. First the edits of the image, then the image, then a line for each change.
-use cix::{Record, Refusal, Stored, ALL};
+use cix::{Record, Refusal, Step, Stored, ALL};
 
 fn counted(r: Result<u32, Refusal>) -> String {
     r.map_or_else(refused, |n| format!("count {n}"))
@@ -30,7 +30,7 @@ fn answers(image: &[u8], home: &[u8]) -> String {
 /// Puts what the first lines say and commits it.
 fn committed<'a>(edits: impl Iterator<Item = &'a str>) -> (Vec<u8>, Vec<u8>) {
     let (mut image, mut space) = (vec![0; cix::image_bytes(28, 2)], vec![0; cix::space_bytes(2)]);
-    cix::format(&mut image, 28, 2, ALL).unwrap();
+    cix::format(&mut image, 28, 2, Step::Fine, ALL).unwrap();
     cix::begin(&image, &mut space).unwrap();
     for line in edits {
         let n: Vec<u32> = line.split(' ').skip(1).map(|n| n.parse().unwrap()).collect();
