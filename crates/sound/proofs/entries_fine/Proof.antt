@@ -1,5 +1,4 @@
 use mathlib.Core.Path.{_∙_}
-use native.Mathlib.Omega.{arith}
 use Rattle.layout.specs.CapacitiesLaws.{fine-short, coarse-short}
 use borrow.Author.Needs.{needs}
 use Rattle.sound.proofs.entries_fine.Statement.{statement}
