@@ -1,5 +1,5 @@
 -- One turn of each loop that tests home, and the test of a dictionary entry by the block that it leads to.
-use mathlib.Core.Path.{_≡_, refl, sym, ap}
+use mathlib.Core.Path.{_≡_, refl, sym, ap, _∙_}
 use mathlib.Core.Bool.{Bool, true, false, _&&_, and-assoc}
 use mathlib.Core.List.{List}
 use Prim.Native.Nat.{ℕ, zero, suc, _+_, _*_, _-_, _/_, _%_, _≤_, _<_}
@@ -141,6 +141,25 @@ module _ (step : ℕ) (h : List ℕ) (area c e f m s : ℕ) (ef : f ≡ firstAt 
     pub zone-rest : blank (part h (cellAt e) (8 * (f - e))) ≡ true → blocksFine step h c f m ≡ zoneFine step h area c e
     unfolding zoneFine
     zone-rest g = rw (← ef, ← em, ← es, ne-eqb m 0 q, le-leb e f a, lt-ltb f (e + s) b, le-leb (f + m * s) area d, g)
+
+-- an entry's four bytes are one number
+entry-halves : (h : List ℕ) (at : ℕ) → get32 h at ≡ get16 h at * 65536 + get16 h (at + 2)
+unfolding get16 get32
+entry-halves h at = let k : at + 2 + 1 ≡ at + 3 = omega arith in rw k (omega arith)
+
+module _ (step : ℕ) (h : List ℕ) (area c e : ℕ) where
+  -- an entry of zeros is an empty zone's
+  pub entry-zero : get32 h (2 + 4 * c) ≡ 0 → (manyAt h c ≡ 0) × (zoneFine step h area c e ≡ true)
+  entry-zero z =
+      let f : firstAt h c ≡ 0 = omega (arith, entry-halves h (2 + 4 * c)) in
+      let m : manyAt h c ≡ 0 = omega (arith, entry-halves h (2 + 4 * c)) in
+      (m, sym (zone-empty step h area c e (firstAt h c) (manyAt h c) (cells step c) refl refl refl m) ∙ eq-eqb (firstAt h c) 0 f)
+
+  -- and no other one
+  pub entry-some : (get32 h (2 + 4 * c) ≡ 0 → ⊥) → zoneFine step h area c e ≡ true → manyAt h c ≡ 0 → ⊥
+  entry-some z t m =
+      let f : firstAt h c ≡ 0 = eqb-true (firstAt h c) 0 (zone-empty step h area c e (firstAt h c) (manyAt h c) (cells step c) refl refl refl m ∙ t) in
+      z (omega (arith, entry-halves h (2 + 4 * c)))
 
 -- what a nonempty zone that is fine tells
 pub record Full (step : ℕ) (h : List ℕ) (area c : ℕ) : Type 0 where

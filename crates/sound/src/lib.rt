@@ -110,7 +110,7 @@ fn zone_fine(home: &[u8], step: usize, area: usize, c: usize, e: usize) -> bool
     blocks_fine(home, step, c, first, many)
 }
 
-// All zones and the cells behind them, with n blocks in all.
+// All zones and the cells behind them, with n blocks in all. An entry of zeros is an empty zone's.
 fn zones_fine(home: &[u8], step: usize, area: usize, n: usize) -> bool
     requires { ⌜ cellAt area ≤ length (now home) ⌝ }
     ensures { λ r. ⌜ r ≡ zonesFine step (now (home .entry)) area 0 0 30 && eqb (manyIn (now (home .entry)) 0 30) n ⌝ }
@@ -119,11 +119,11 @@ fn zones_fine(home: &[u8], step: usize, area: usize, n: usize) -> bool
     let mut e = 0;
     let mut c = 0;
     while c < 30 {
-        if !zone_fine(home, step, area, c, e) {
-            return false;
-        }
-        let blocks = zone_count(home, c);
-        if 0 < blocks {
+        if wire::get32(home, 2 + 4 * c) != 0 {
+            if !zone_fine(home, step, area, c, e) {
+                return false;
+            }
+            let blocks = zone_count(home, c);
             many += blocks;
             e = zone_first(home, c) + blocks * cells(step, c);
         }
