@@ -120,8 +120,8 @@ unfolding follow change settle place takeOut rewritten hasTag look insert remove
 bench-holds = refl
 
 -- the same calls with step code 1: classes 0 and 1 have 5 and 8 cells, so that there is room for other blocks
-bench-coarse : List Row
-bench-coarse =
+outgrown : List Row
+outgrown =
     -- case 1
     record { edit = putting 7 0 1 0 0; answer = Count 1; after = at 7 0 0 1 ∷ [] } ∷
     record { edit = putting 9 0 1 0 0; answer = Count 1; after = at 7 0 0 1 ∷ at 9 5 0 1 ∷ [] } ∷
@@ -132,6 +132,12 @@ bench-coarse =
     record { edit = putting 7 0 5 0 0; answer = Count 5; after = at 7 5 1 5 ∷ at 9 0 0 1 ∷ [] } ∷
     -- case 3
     record { edit = putting 11 0 1 0 0; answer = Refused 12; after = at 7 5 1 5 ∷ at 9 0 0 1 ∷ [] } ∷
+    []
+
+bench-coarse : List Row
+bench-coarse =
+    outgrown
+    ++ (
     -- case 4
     record { edit = putting 13 0 1 0 0; answer = Refused 12; after = at 7 5 1 5 ∷ at 9 0 0 1 ∷ [] } ∷
     -- case 5
@@ -147,29 +153,24 @@ bench-coarse =
     record { edit = putting 13 0 5 0 0; answer = Count 5; after = at 7 0 0 4 ∷ at 13 5 1 5 ∷ [] } ∷
     record { edit = dropping 7; answer = Count 0; after = at 13 5 1 5 ∷ [] } ∷
     record { edit = dropping 11; answer = Refused 9; after = at 13 5 1 5 ∷ [] } ∷
-    []
+    [])
 
 bench-coarse-holds : follow 1 16 (replicate 30 empty) bench-coarse ≡ true
-unfolding follow change settle place takeOut rewritten hasTag look insert remove amend cells totalAfter bench-coarse
+unfolding follow change settle place takeOut rewritten hasTag look insert remove amend cells totalAfter outgrown bench-coarse
 bench-coarse-holds = refl
 
--- and a list that grows: its fifth record moves it to class 1, its eighth finds no room there
+-- and a list that grows on: its eighth record finds no room
 grown : List Row
 grown =
-    record { edit = putting 7 0 1 0 0; answer = Count 1; after = at 7 0 0 1 ∷ [] } ∷
-    record { edit = putting 9 0 1 0 0; answer = Count 1; after = at 7 0 0 1 ∷ at 9 5 0 1 ∷ [] } ∷
-    record { edit = putting 7 0 2 0 0; answer = Count 2; after = at 7 0 0 2 ∷ at 9 5 0 1 ∷ [] } ∷
-    record { edit = putting 7 0 3 0 0; answer = Count 3; after = at 7 0 0 3 ∷ at 9 5 0 1 ∷ [] } ∷
-    record { edit = putting 7 0 4 0 0; answer = Count 4; after = at 7 0 0 4 ∷ at 9 5 0 1 ∷ [] } ∷
-    record { edit = putting 7 0 5 0 0; answer = Count 5; after = at 7 5 1 5 ∷ at 9 0 0 1 ∷ [] } ∷
-    record { edit = putting 11 0 1 0 0; answer = Refused 12; after = at 7 5 1 5 ∷ at 9 0 0 1 ∷ [] } ∷
+    outgrown
+    ++ (
     record { edit = putting 7 0 6 0 0; answer = Count 6; after = at 7 5 1 6 ∷ at 9 0 0 1 ∷ [] } ∷
     record { edit = putting 7 0 7 0 0; answer = Count 7; after = at 7 5 1 7 ∷ at 9 0 0 1 ∷ [] } ∷
     record { edit = putting 7 0 8 0 0; answer = Refused 12; after = at 7 5 1 7 ∷ at 9 0 0 1 ∷ [] } ∷
-    []
+    [])
 
 grown-holds : follow 1 16 (replicate 30 empty) grown ≡ true
-unfolding follow change settle place takeOut rewritten hasTag look insert remove amend cells totalAfter grown
+unfolding follow change settle place takeOut rewritten hasTag look insert remove amend cells totalAfter outgrown grown
 grown-holds = refl
 
 -- the layout after them
@@ -289,9 +290,9 @@ model-judges : judged whole (record { pokes = []; fine = true } ∷ pokings) ≡
 unfolding judged whole pokings change settle place takeOut rewritten hasTag look insert remove amend cells totalAfter sound valid equal decode zonesFrom encode bytesOf risingFrom recordAt classOf find blocks capacity part blank
 model-judges = refl
 
--- a home with a block of class 1 is sound with its own code alone
+-- a list of 7 records has class 1 by code 1 and class 3 by code 0: its home is sound with its own code alone
 other : List ℕ
-unfolding encode left grown
+unfolding encode left outgrown grown
 other = encode 1 2 (left 1 16 (replicate 30 empty) grown)
 
 codes : List Poked

@@ -1,4 +1,4 @@
--- Document 01's soundness, from before there were step codes: one table of sizes, and "Bytes 122–127 are zero".
+-- Soundness as it was before there were step codes: one table of sizes, and "Bytes 122–127 are zero".
 use mathlib.Core.Bool.{Bool, _&&_}
 use mathlib.Core.List.{List, _++_}
 use Prim.Native.Nat.{ℕ, _*_}

@@ -16,7 +16,7 @@ use Rattle.records.specs.Records.{rising, records, decode}
 use Rattle.records.specs.Edits.{decode-part}
 use Rattle.layout.specs.Capacities.{capacity, under, cells, classOf}
 use Rattle.layout.specs.CapacitiesLaws.{cells-is, cells-pos, cells-most, class-below, class-holds, class-over, class-within}
-use Rattle.home.specs.Bytes.{stepOf, cellAt, countAt, firstAt, manyAt, tagAt, entryCell, endAt}
+use Rattle.home.specs.Bytes.{stepOf, cellAt, countAt, zoneEntryAt, firstAt, manyAt, tagAt, entryCell, endAt}
 use Rattle.home.specs.EndLaws.{end-none, end-some}
 use Rattle.home.specs.Sound.{bare, pagesOf, sized}
 use Rattle.sound.specs.Checks.{coded, blockFine, blocksFine, lies, zoneFine, zonesFine, manyIn, starts, leads, tagsFine, checked}
@@ -142,24 +142,24 @@ module _ (step : ℕ) (h : List ℕ) (area c e f m s : ℕ) (ef : f ≡ firstAt 
     unfolding zoneFine
     zone-rest g = rw (← ef, ← em, ← es, ne-eqb m 0 q, le-leb e f a, lt-ltb f (e + s) b, le-leb (f + m * s) area d, g)
 
--- an entry's four bytes are one number
-entry-halves : (h : List ℕ) (at : ℕ) → get32 h at ≡ get16 h at * 65536 + get16 h (at + 2)
+-- the four bytes of a zone's entry as one number
+halves : (h : List ℕ) (at : ℕ) → get32 h at ≡ get16 h at * 65536 + get16 h (at + 2)
 unfolding get16 get32
-entry-halves h at = let k : at + 2 + 1 ≡ at + 3 = omega arith in rw k (omega arith)
+halves h at = let k : at + 2 + 1 ≡ at + 3 = omega arith in rw k (omega arith)
 
 module _ (step : ℕ) (h : List ℕ) (area c e : ℕ) where
-  -- an entry of zeros is an empty zone's
-  pub entry-zero : get32 h (2 + 4 * c) ≡ 0 → (manyAt h c ≡ 0) × (zoneFine step h area c e ≡ true)
-  entry-zero z =
-      let f : firstAt h c ≡ 0 = omega (arith, entry-halves h (2 + 4 * c)) in
-      let m : manyAt h c ≡ 0 = omega (arith, entry-halves h (2 + 4 * c)) in
+  -- zero is the entry of an empty zone
+  pub zone-zero : get32 h (zoneEntryAt c) ≡ 0 → (manyAt h c ≡ 0) × (zoneFine step h area c e ≡ true)
+  zone-zero z =
+      let f : firstAt h c ≡ 0 = omega (arith, halves h (zoneEntryAt c)) in
+      let m : manyAt h c ≡ 0 = omega (arith, halves h (zoneEntryAt c)) in
       (m, sym (zone-empty step h area c e (firstAt h c) (manyAt h c) (cells step c) refl refl refl m) ∙ eq-eqb (firstAt h c) 0 f)
 
   -- and no other one
-  pub entry-some : (get32 h (2 + 4 * c) ≡ 0 → ⊥) → zoneFine step h area c e ≡ true → manyAt h c ≡ 0 → ⊥
-  entry-some z t m =
+  pub zone-some : (get32 h (zoneEntryAt c) ≡ 0 → ⊥) → zoneFine step h area c e ≡ true → manyAt h c ≡ 0 → ⊥
+  zone-some z t m =
       let f : firstAt h c ≡ 0 = eqb-true (firstAt h c) 0 (zone-empty step h area c e (firstAt h c) (manyAt h c) (cells step c) refl refl refl m ∙ t) in
-      z (omega (arith, entry-halves h (2 + 4 * c)))
+      z (omega (arith, halves h (zoneEntryAt c)))
 
 -- what a nonempty zone that is fine tells
 pub record Full (step : ℕ) (h : List ℕ) (area c : ℕ) : Type 0 where

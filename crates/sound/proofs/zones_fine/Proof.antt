@@ -9,7 +9,7 @@ use mathlib.Core.Logic.{⊎-elim}
 use Rattle.home.specs.Bytes.{manyAt, endAt}
 use Rattle.home.specs.EndLaws.{end-none, end-full, zone-fits}
 use Rattle.sound.specs.Checks.{zoneFine, zonesFine, manyIn}
-use Rattle.sound.specs.CheckLoopLaws.{entry-zero, entry-some, end-inside, zones-turn, zones-stop, zones-end, many-turn, many-end}
+use Rattle.sound.specs.CheckLoopLaws.{zone-zero, zone-some, end-inside, zones-turn, zones-stop, zones-end, many-turn, many-end}
 use borrow.Author.Needs.{needs}
 use Rattle.sound.proofs.zones_fine.Statement.{statement}
 use Rattle.sound.proofs.zones_fine.Tie as tie
@@ -75,10 +75,10 @@ passed c =
     ⊎-elim
     (λ t.
     let f = sym (t .1 .ensures) ∙ not-false _ (t .2 .left) in
-    let m = entry-some _ (a .home .now) (a .area) (l .c) (l .e) (λ z. t .0 .taken (g .ensures ∙ z)) f in
+    let m = zone-some _ (a .home .now) (a .area) (l .c) (l .e) (λ z. t .0 .taken (g .ensures ∙ z)) f in
     (f, t .6 ∙ omega (arith, t .3 .ensures), t .7 ∙ end-full _ _ _ _ _ _ _ (t .4 .ensures .0) (t .3 .ensures .0) (t .5 .ensures .0) (λ z. m (sym (t .3 .ensures .0) ∙ z)), omega (arith, t .6, t .3 .ensures .1)))
     (λ t.
-    let z = entry-zero _ (a .home .now) (a .area) (l .c) (l .e) (sym (g .ensures) ∙ t .0 .left) in
+    let z = zone-zero _ (a .home .now) (a .area) (l .c) (l .e) (sym (g .ensures) ∙ t .0 .left) in
     (z .1, t .1 ∙ omega (arith, z .0), t .2 ∙ sym (end-none _ _ _ _ (z .0)), omega (arith, t .1)))
     (c .if1 .came)
 
