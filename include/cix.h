@@ -123,6 +123,16 @@ uint64_t cix_count_image(const uint8_t *image, size_t image_len, uint32_t tag);
 /* The same in a workspace. Refused: 6, 7. */
 uint64_t cix_count_space(const uint8_t *space, size_t space_len, uint32_t tag);
 
+/* Counts the records of a tag's list before this level, second and phone, listed or not; an unknown
+ * tag has 0. Of a listed call that is its place, 0 for the first; of another the place at which a put
+ * would list it. Done, with the count. Refused: 1, 3, 5. */
+uint64_t cix_rank_image(const uint8_t *image, size_t image_len, uint32_t tag, uint8_t level,
+                        uint32_t second, uint16_t phone);
+
+/* The same in a workspace. Refused: 6, 7. */
+uint64_t cix_rank_space(const uint8_t *space, size_t space_len, uint32_t tag, uint8_t level,
+                        uint32_t second, uint16_t phone);
+
 /* Where a tag's records lie: CIX_PLACE bytes into the image, CIX_LENGTH bytes. 0 for an unknown tag
  * and where the count call is refused. */
 uint64_t cix_show_image(const uint8_t *image, size_t image_len, uint32_t tag);

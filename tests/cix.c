@@ -1,5 +1,5 @@
 /* Calls every function of cix.h: on no bytes at all, with lengths that are not true, through the
- * specification's bench cases, where all zones are laid out afresh, and with the coarse step. */
+ * specification's bench cases, for ranks, where all zones are laid out afresh, and with the coarse step. */
 #include "cix.h"
 #include <stdio.h>
 #include <stdlib.h>
@@ -43,6 +43,8 @@ static void no_bytes(void) {
     REFUSED(cix_recover(NULL, 0, CIX_ALL), CIX_BAD_HEAD);
     REFUSED(cix_count_image(NULL, 0, 7), CIX_BAD_HEAD);
     REFUSED(cix_count_space(NULL, 0, 7), CIX_SPACE_LENGTH);
+    REFUSED(cix_rank_image(NULL, 0, 7, 1, 2, 3), CIX_BAD_HEAD);
+    REFUSED(cix_rank_space(NULL, 0, 7, 1, 2, 3), CIX_SPACE_LENGTH);
     DONE(cix_show_image(NULL, 0, 7), 0);
     DONE(cix_show_space(NULL, 0, 7), 0);
     REFUSED(cix_both_image(NULL, 0, 7, 9, NULL, 0), CIX_BAD_HEAD);
@@ -84,10 +86,12 @@ static void long_lengths(void) {
         REFUSED(cix_commit(i, sizeof image, s, m, CIX_ALL), CIX_SPACE_LENGTH);
         REFUSED(cix_recover(i, n, CIX_ALL), CIX_BAD_HEAD);
         REFUSED(cix_count_image(i, n, 7), CIX_BAD_HEAD);
+        REFUSED(cix_rank_image(i, n, 7, 1, 2, 3), CIX_BAD_HEAD);
         DONE(cix_show_image(i, n, 7), 0);
         REFUSED(cix_either_image(i, n, 7, 9, out, 8), CIX_BAD_HEAD);
         REFUSED(cix_put(s, m, 7, 0, 0, 0, 0), CIX_SPACE_LENGTH);
         REFUSED(cix_count_space(s, m, 7), CIX_SPACE_LENGTH);
+        REFUSED(cix_rank_space(s, m, 7, 1, 2, 3), CIX_SPACE_LENGTH);
         DONE(cix_either_space(s, sizeof space, 7, 9, out, SIZE_MAX - j), 0);
     }
     free(i);
@@ -157,6 +161,36 @@ static void cuts(void) {
     uint64_t shown = cix_show_image(IMAGE, 7);
     check("length", CIX_LENGTH(shown), 8, __LINE__);
     check("bytes", memcmp(image + CIX_PLACE(shown), "\1\0\0\0\144\0\11", 8), 0, __LINE__);
+}
+
+/* Third in line: the number foretold, in a workspace and through a commit that is cut. */
+static void ranks(void) {
+    DONE(cix_format(IMAGE, ENTRIES, PAGES, CIX_STEP_FINE, CIX_ALL), sizeof image + 1);
+    DONE(cix_begin(IMAGE, SPACE), 0);
+    DONE(cix_rank_space(SPACE, 7, 1, 100, 9), 0);
+    DONE(cix_put(SPACE, 7, 1, 100, 9, 0), 1);
+    DONE(cix_put(SPACE, 7, 1, 100, 3, 255), 2);
+    DONE(cix_put(SPACE, 7, 0, 500, 9, 1), 3);
+    DONE(cix_rank_space(SPACE, 7, 0, 500, 9), 0);
+    DONE(cix_rank_space(SPACE, 7, 1, 100, 3), 1);
+    DONE(cix_rank_space(SPACE, 7, 1, 100, 9), 2);
+    DONE(cix_rank_space(SPACE, 7, 0, 0, 0), 0);
+    DONE(cix_rank_space(SPACE, 7, 255, UINT32_MAX, UINT16_MAX), 3);
+    DONE(cix_rank_space(SPACE, 9, 255, UINT32_MAX, UINT16_MAX), 0);
+    DONE(cix_commit(IMAGE, SPACE, CIX_ALL), 394);
+    DONE(cix_rank_image(IMAGE, 7, 1, 100, 6), 2);
+    DONE(cix_put(SPACE, 7, 1, 100, 6, 0), 4);
+    DONE(cix_rank_space(SPACE, 7, 1, 100, 6), 2);
+    DONE(cix_rank_space(SPACE, 7, 1, 100, 9), 3);
+    REFUSED(cix_put(SPACE, 7, 1, 100, 6, 5), CIX_LISTED);
+    DONE(cix_rank_space(SPACE, 7, 1, 100, 6), 2);
+    CUT(cix_commit(IMAGE, SPACE, 68), 68);
+    DONE(cix_rank_image(IMAGE, 7, 1, 100, 6), 2);
+    CUT(cix_commit(IMAGE, SPACE, 69), 69);
+    REFUSED(cix_rank_image(IMAGE, 7, 1, 100, 6), CIX_UNRECOVERED);
+    DONE(cix_recover(IMAGE, CIX_ALL), 65);
+    DONE(cix_rank_image(IMAGE, 7, 1, 100, 6), 2);
+    DONE(cix_rank_image(IMAGE, 7, 1, 100, 9), 3);
 }
 
 /* A commit cut in the middle of its mark, which then holds neither 0 nor 165. */
@@ -252,6 +286,7 @@ int main(void) {
     blocks();
     merges();
     cuts();
+    ranks();
     spoiled_mark();
     laid_afresh();
     no_codes();

@@ -46,6 +46,22 @@ extern "C" {
     pub fn cix_recover(image: *mut u8, image_len: usize, stores: u32) -> u64;
     pub fn cix_count_image(image: *const u8, image_len: usize, tag: u32) -> u64;
     pub fn cix_count_space(space: *const u8, space_len: usize, tag: u32) -> u64;
+    pub fn cix_rank_image(
+        image: *const u8,
+        image_len: usize,
+        tag: u32,
+        level: u8,
+        second: u32,
+        phone: u16,
+    ) -> u64;
+    pub fn cix_rank_space(
+        space: *const u8,
+        space_len: usize,
+        tag: u32,
+        level: u8,
+        second: u32,
+        phone: u16,
+    ) -> u64;
     pub fn cix_show_image(image: *const u8, image_len: usize, tag: u32) -> u64;
     pub fn cix_show_space(space: *const u8, space_len: usize, tag: u32) -> u64;
 }

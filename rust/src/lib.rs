@@ -288,6 +288,41 @@ pub fn count_space(space: &[u8], tag: u32) -> Result<u32> {
     counted(unsafe { ffi::cix_count_space(space.as_ptr(), space.len(), tag) })
 }
 
+/// Counts the records of a tag's list before r's level, second and phone, whether that call is listed
+/// or not; an unknown tag has 0. Of a listed call that is its place in the list, 0 for the first, and
+/// of another the place at which [`put`] would list it. r's minutes are not looked at.
+///
+/// ```
+/// use cix::{Record, Step};
+///
+/// let mut image = vec![0; cix::image_bytes(28, 2)];
+/// let mut space = vec![0; cix::space_bytes(2)];
+/// cix::format(&mut image, 28, 2, Step::Fine, cix::ALL)?;
+/// cix::begin(&image, &mut space)?;
+/// let call = |second| Record { level: 1, second, phone: 9, minutes: 0 };
+/// cix::put(&mut space, 7, call(100))?;
+/// cix::put(&mut space, 7, call(300))?;
+/// assert_eq!(cix::rank_space(&space, 7, call(200)), Ok(1)); // foretold: the second in line
+/// cix::put(&mut space, 7, call(200))?;
+/// cix::commit(&mut image, &space, cix::ALL)?;
+/// assert_eq!(cix::rank_image(&image, 7, call(200)), Ok(1));
+/// assert_eq!(cix::rank_image(&image, 7, call(300)), Ok(2)); // now the third in line
+/// assert_eq!(cix::rank_image(&image, 9, call(300)), Ok(0));
+/// # Ok::<(), cix::Refusal>(())
+/// ```
+pub fn rank_image(image: &[u8], tag: u32, r: Record) -> Result<u32> {
+    counted(unsafe {
+        ffi::cix_rank_image(image.as_ptr(), image.len(), tag, r.level, r.second, r.phone)
+    })
+}
+
+/// The same in a workspace.
+pub fn rank_space(space: &[u8], tag: u32, r: Record) -> Result<u32> {
+    counted(unsafe {
+        ffi::cix_rank_space(space.as_ptr(), space.len(), tag, r.level, r.second, r.phone)
+    })
+}
+
 /// The part of the image that holds a tag's records: empty for an unknown tag, and where
 /// [`count_image`] is refused.
 pub fn show_image(image: &[u8], tag: u32) -> &[u8] {

@@ -10,6 +10,7 @@ mod lines;
 mod model;
 mod pair;
 mod random;
+mod ranks;
 mod spoiled;
 mod steps;
 
@@ -37,6 +38,9 @@ fn main() {
     }
     println!("random lists with bytes caught halfway: {} calls, as the book foretells", tally.calls);
     steps::formats(&mut tally);
+    ranks::bounds(&mut tally);
+    let (done, refused) = ranks::foretold(calls / 20, &mut rng, &mut tally);
+    println!("ranks: {done} puts stand at the place foretold, {refused} are refused, and all ranks are as foretold");
     afresh::cases(&mut tally);
     let laid = afresh::nearly_full(calls / 10, &mut rng, &mut tally);
     println!("nearly full areas: {laid} puts laid all zones out afresh, 12 only where they do not fit");
@@ -47,6 +51,8 @@ fn main() {
         println!("zones laid out afresh: {} times the old index, {} times the new one", found.old, found.new);
         let found = steps::every_cut(&mut tally);
         println!("the other step code: {} times the old index, {} times the new one", found.old, found.new);
+        let found = ranks::every_cut(&mut tally);
+        println!("ranks: foretold through a commit, {} times by the old index, {} times by the new one", found.old, found.new);
         steps::cut_formats(&mut tally);
         steps::damage(&mut tally);
         steps::bounds(&mut tally);
@@ -127,7 +133,7 @@ fn one_image(rng: &mut Random, tally: &mut Tally) {
             67..=69 => p.commit(cix::ALL, Told::Stood, tally),
             70..=73 => p.recover(rng.allowance(500), rng.told(), tally),
             74..=75 => p.begin(tally),
-            76..=87 => read(&mut p, rng, tags, tally),
+            76..=87 => read(&mut p, rng, tags, seconds, tally),
             88 => spoiled(&p, rng, tags, seconds, tally),
             89 => shortened(&p, rng, tags, tally),
             90 if pages <= 16 && rng.one_in(2) => p.change_step(tally),
@@ -136,11 +142,13 @@ fn one_image(rng: &mut Random, tally: &mut Tally) {
     }
 }
 
-fn read(p: &mut Pair, rng: &mut Random, tags: u32, tally: &mut Tally) {
+fn read(p: &mut Pair, rng: &mut Random, tags: u32, seconds: u32, tally: &mut Tally) {
     let of = if rng.one_in(2) { Of::Image } else { Of::Space };
-    match rng.below(3) {
-        0 => p.count(of, rng.tag(tags), tally),
-        1 => p.show(of, rng.tag(tags), tally),
+    let tag = rng.tag(tags);
+    match rng.below(4) {
+        0 => p.count(of, tag, tally),
+        1 => p.show(of, tag, tally),
+        2 => _ = p.rank(of, tag, rng.listed(p, tag, seconds), tally),
         _ => p.merge(of, rng, tags, tally),
     }
 }
@@ -161,7 +169,7 @@ fn any(p: &mut Pair, rng: &mut Random, tags: u32, seconds: u32, tally: &mut Tall
         4 => p.commit(rng.allowance(900), rng.told(), tally),
         5 | 6 => p.recover(rng.allowance(500), rng.told(), tally),
         7 => p.begin(tally),
-        _ => read(p, rng, tags, tally),
+        _ => read(p, rng, tags, seconds, tally),
     }
 }
 

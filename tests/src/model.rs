@@ -432,6 +432,12 @@ pub fn count(of: Of, bytes: &[u8], tag: u32) -> Counted {
     Ok(home_of(of, bytes)?.0.list(tag).len() as u32)
 }
 
+/// The number of the tag's records before r's primary part.
+pub fn rank(of: Of, bytes: &[u8], tag: u32, r: Rec) -> Counted {
+    let (home, _) = home_of(of, bytes)?;
+    Ok(home.list(tag).iter().filter(|x| primary(x) < primary(&r)).count() as u32)
+}
+
 /// The place and length of a tag's records; (0, 0) for none and on refusal.
 pub fn show(of: Of, bytes: &[u8], tag: u32) -> (usize, usize) {
     let Ok((home, at)) = home_of(of, bytes) else { return (0, 0) };

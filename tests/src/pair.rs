@@ -232,6 +232,17 @@ impl Pair {
         tally.same("count", l.map_err(Refusal::number), model::count(of, b, tag));
     }
 
+    pub fn rank(&self, of: Of, tag: u32, r: Rec, tally: &mut Tally) -> model::Counted {
+        let b = self.bytes(of);
+        let l = match of {
+            Of::Image => cix::rank_image(b, tag, record(r)),
+            Of::Space => cix::rank_space(b, tag, record(r)),
+        };
+        let l = l.map_err(Refusal::number);
+        tally.same("rank", l, model::rank(of, b, tag, r));
+        l
+    }
+
     pub fn show(&mut self, of: Of, tag: u32, tally: &mut Tally) {
         let b = self.bytes(of);
         let l = match of {

@@ -14,7 +14,7 @@ ghost use Rattle.wire.specs.Rules.{answered, left};
 ghost use Rattle.log.specs.Calls.{answer, after, recoverPlan, commitPlan};
 ghost use Rattle.records.specs.Records.{key};
 ghost use Rattle.home.specs.Sound.{sound as isSound};
-ghost use Rattle.reads.specs.Reads.{countIn};
+ghost use Rattle.reads.specs.Reads.{countIn, rankIn};
 ghost use Rattle.reads.specs.Merges.{mergeIn};
 ghost use Rattle.index.specs.Calls.{beginCall, putCall, deleteCall, setCall, dropCall, formatPlan};
 ghost use Rattle.cix.specs.Numbers.{ofAnswer, ofBegun, ofOutcome, Fits, call as callOf};
@@ -195,6 +195,36 @@ pub extern "C" fn cix_count_space(space: &[u8], tag: u32) -> u64
     ensures { λ r. ⌜ r ≡ ofAnswer (countIn Of.Space (now (space .entry)) tag) ⌝ }
 {
     let a = reads::count(Of::Space, space, tag);
+    of_answer(a)
+}
+
+// Counts the records of a tag's list in an image before a primary part.
+#[no_mangle]
+pub extern "C" fn cix_rank_image(image: &[u8], tag: u32, level: u8, second: u32, phone: u16) -> u64
+    ensures { λ r. ⌜ r ≡ ofAnswer (rankIn Of.Image (now (image .entry)) tag (key (callOf level second phone 0))) ⌝ }
+{
+    let c = Record {
+        level: level,
+        second: second,
+        phone: phone,
+        minutes: 0,
+    };
+    let a = reads::rank(Of::Image, image, tag, c);
+    of_answer(a)
+}
+
+// Counts the records of a tag's list in a workspace before a primary part.
+#[no_mangle]
+pub extern "C" fn cix_rank_space(space: &[u8], tag: u32, level: u8, second: u32, phone: u16) -> u64
+    ensures { λ r. ⌜ r ≡ ofAnswer (rankIn Of.Space (now (space .entry)) tag (key (callOf level second phone 0))) ⌝ }
+{
+    let c = Record {
+        level: level,
+        second: second,
+        phone: phone,
+        minutes: 0,
+    };
+    let a = reads::rank(Of::Space, space, tag, c);
     of_answer(a)
 }
 

@@ -8,7 +8,7 @@ use Prim.Native.Nat.{ℕ, _+_, _*_, _<_}
 use native.Mathlib.Omega.{arith}
 use lib.ListN.{length}
 use Rattle.wire.specs.All.{All}
-use Rattle.wire.specs.Cases.{by-eq, by-lt, never}
+use Rattle.wire.specs.Cases.{never}
 use Rattle.wire.specs.Rules.{Rule, Ruled, answered, left}
 use Rattle.wire.specs.RulesLaws.{unrefused, passes-both, first-passed}
 use Rattle.records.specs.declared.Record.{Record}
@@ -17,7 +17,7 @@ use Rattle.redo.specs.Store.{Store}
 use Rattle.redo.specs.Image.{home}
 use Rattle.log.specs.Calls.{store, answer, changedPages, commitPlan}
 use Rattle.log.specs.Book.{Call, commit, final}
-use Rattle.log.specs.Kept.{IsRecover, Finds, Found}
+use Rattle.log.specs.Kept.{IsRecover, Finds, Found, one-found}
 use Rattle.layout.specs.Capacities.{cells, classOf}
 use Rattle.layout.specs.CapacitiesLaws.{cells-mono, cells-pos, rising as rises}
 use Rattle.layout.specs.Zones.{Block, Zone, blocks, hasTag, find, place, joined, afresh, settle}
@@ -115,5 +115,4 @@ module _ (l : List ℕ) (t : ℕ) (r : Record) (k : Afresh (home l) t r) {ss : L
       let others : listOf w u ≡ listOf (home l) u = (subst (Effect (home l) w t (insert r (listOf (home l) t))) (k .done) (put-effect (home l) t (k .tag) r (k .fits))) .others u d in
       let old : y ≡ home l → listOf y u ≡ listOf (home l) u = λ q. ap (λ (z : List ℕ). listOf z u) q in
       let new : y ≡ encode (stepOf (home l)) (pagesOf (home l)) (laidAfresh (home l) t r) → listOf y u ≡ listOf (home l) u = λ q. ap (λ (z : List ℕ). listOf z u) (q ∙ new-is) ∙ others in
-      by-lt n (66 * length (changedPages l w) + 2) (λ g. old (f .before g))
-      (λ g. by-eq n (66 * length (changedPages l w) + 2) (λ q. ⊎-elim old new (f .halfway q)) (λ q. new (f .whole (omega arith))))
+      ⊎-elim old new (one-found n v (length (changedPages l w)) (home l) (encode (stepOf (home l)) (pagesOf (home l)) (laidAfresh (home l) t r)) y f)

@@ -35,6 +35,7 @@ use Rattle.index.specs.Calls.{putCall, deleteCall, setCall, dropCall}
 
 -- an edit that is not refused: tag t's list is rs, and the answer its record count; every other tag reads as before, and the step code stays
 pub record Done (w w' : List ℕ) (t : ℕ) (rs : List Record) (n : ℕ) : Type 0 where
+  pub was : sound w ≡ true
   pub fine : sound w' ≡ true
   pub long : length w' ≡ length w
   pub list : listOf w' t ≡ rs
@@ -58,6 +59,7 @@ module _ (w : List ℕ) (t : ℕ) (small : t < 4294967296) where
       go : (o : Option (List Zone)) → isSome o ≡ true → Holds (Changed (cells (stepOf w)) (classOf (stepOf w)) t (8 * pagesOf w) rs (decode w)) o → Done w (settled (stepOf w) (pagesOf w) w o) t rs (length rs)
       go none i h = never i
       go (some zs) i h = record {
+        was = s;
         fine = sound-encode (stepOf w) (pagesOf w) zs (sound-code w s) (sound-some w s) (sound-small w s) (h .valid);
         long = length-loose (stepOf w) (pagesOf w) zs (valid-loose (stepOf w) (pagesOf w) zs (h .valid)) ∙ sym (sound-long w s);
         list = listOf-encode (stepOf w) (pagesOf w) zs t (sound-small w s) (h .valid) ∙ h .found;

@@ -9,10 +9,10 @@ use lib.ListN.{length, getD}
 use borrow.Author.Tests.{lt-ltb, eq-eqb}
 use Rattle.wire.specs.All.{All, more}
 use Rattle.wire.specs.Cases.{by-test, never}
-use Rattle.wire.specs.Rules.{first, refusal}
-use Rattle.wire.specs.RulesLaws.{by-refusal}
+use Rattle.wire.specs.Rules.{first, refusal, left}
+use Rattle.wire.specs.RulesLaws.{by-refusal, first-passed, passes-both}
 use Rattle.records.specs.declared.Record.{Record}
-use Rattle.records.specs.Records.{Fits, key, before, risingFrom, rising, encode as recordBytes}
+use Rattle.records.specs.Records.{Fits, key, before, below, risingFrom, rising, encode as recordBytes}
 use Rattle.records.specs.Order.{before-key, rising-parts, rising-at}
 use Rattle.redo.specs.Image.{mark, home, headOk, inRange, imageLength, emptyImage}
 use Rattle.redo.specs.ImageLaws.{in-range, head-same}
@@ -22,7 +22,7 @@ use Rattle.log.specs.FormatLaws.{format-done, empty-head, empty-mark, empty-hom
 use Rattle.log.specs.Book.{commit, seen, planOf, allowance, value, final}
 use Rattle.log.specs.Claim.{Starts, holds, done-uncaught}
 use Rattle.log.specs.Kept.{completed}
-use Rattle.home.specs.declared.Answer.the-variants.{Count}
+use Rattle.home.specs.declared.Answer.the-variants.{Count, Refused}
 use Rattle.layout.specs.Zones.{blocks, find}
 use Rattle.home.specs.Bytes.{stepOf, encode}
 use Rattle.home.specs.Sound.{sized, sound, listOf}
@@ -33,10 +33,9 @@ use Rattle.gates.specs.declared.Of.{Of}
 use Rattle.gates.specs.declared.Of.the-variants.{Image, Space}
 use Rattle.gates.specs.Gates.{gateRules, homeIn}
 use Rattle.gates.specs.GatesLaws.{image-open}
-use Rattle.reads.specs.Reads.{listIn, countIn, showIn}
-use Rattle.reads.specs.ReadsLaws.{count-open, show-open}
-use Rattle.reads.specs.MergesLaws.{sound-listed}
-use Rattle.index.specs.Calls.{formatPlan}
+use Rattle.reads.specs.Reads.{listIn, countIn, rankIn, showIn}
+use Rattle.reads.specs.ReadsLaws.{sound-listed, count-open, show-open}
+use Rattle.index.specs.Calls.{beginCall, formatPlan}
 use Rattle.index.specs.FormatLaws.{format-coded}
 use Rattle.index.specs.CommitLaws.{commit-refused}
 
@@ -78,6 +77,31 @@ pub image-opens : (l : List ℕ) → headOk l ≡ true → mark l ≡ 0 → soun
 unfolding gateRules first
 image-opens l ok m s = rw (ok, eq-eqb (mark l) 0 m, s)
 
+-- ---- an image and a workspace
+
+-- an image reads as a workspace
+pub record ReadsAs (l w : List ℕ) : Type 0 where
+  pub count : (t : ℕ) → countIn Image l t ≡ countIn Space w t
+  pub rank : (t k : ℕ) → rankIn Image l t k ≡ rankIn Space w t k
+  pub show : (t : ℕ) → showIn Image l t ≡ showIn Space w t
+
+-- what is read by home alone
+same-read : {A : Type 0} (f : ℕ → A) (g : List ℕ → A) (l w : List ℕ) → refusal (gateRules Image l) ≡ none → home l ≡ w → first f (gateRules Image l) (g (home l)) ≡ first f (gateRules Space w) (g w)
+same-read f g l w p e = first-passed f (gateRules Image l) (g (home l)) p ∙ ap g e ∙ sym (first-passed f (gateRules Space w) (g w) (space-opens w (ap sound (sym e) ∙ image-open l p .fine)))
+
+pub home-reads : (l w : List ℕ) → refusal (gateRules Image l) ≡ none → home l ≡ w → ReadsAs l w
+unfolding countIn rankIn showIn homeIn
+home-reads l w p e = record {
+  count = λ t. same-read Refused (λ h. Count (length (listOf h t))) l w p e;
+  rank = λ t k. same-read Refused (λ h. Count (below k (listOf h t))) l w p e;
+  show = λ t. same-read (λ n. []) (λ h. recordBytes (listOf h t)) l w p e;
+}
+
+-- "copies home to a workspace": a workspace that was begun
+pub begun-reads : (l w : List ℕ) → refusal (beginCall l w .rules) ≡ none → ReadsAs l (left (beginCall l w) w)
+unfolding beginCall
+begun-reads l w e = home-reads l (left (beginCall l w) w) (passes-both (gateRules Image l) _ e .0) (sym (first-passed (λ n. w) (beginCall l w .rules) (home l) e))
+
 -- a committed workspace is what a read of the image then finds
 module _ (l w : List ℕ) (n m : ℕ) (done : answer (commitPlan sound l w) n ≡ Committed m) where
   abbrev l' : List ℕ
@@ -86,7 +110,6 @@ module _ (l w : List ℕ) (n m : ℕ) (done : answer (commitPlan sound l w) n �
   pub record Read : Type 0 where
     pub gate : refusal (gateRules Image l') ≡ none
     pub bytes : home l' ≡ w
-    pub fine : sound w ≡ true
 
   pub committed : Read
   unfolding answer final seen planOf allowance value
@@ -98,16 +121,10 @@ module _ (l w : List ℕ) (n m : ℕ) (done : answer (commitPlan sound l w) n �
       let k = completed sound l s [] w l refl n 0 m done in
       let t = rw (done-uncaught (commitPlan sound l w) n m 0 l done) at (holds sound l s (commit w n 0 ∷ [])) in
       let fine : sound w ≡ true = subst (λ (x : List ℕ). sound x ≡ true) (k .0) (t .fits .fine) in
-      record { gate = image-opens l' (head-same (t .head) ∙ o .head) (k .1) (ap sound (k .2) ∙ fine); bytes = k .2; fine = fine })
+      record { gate = image-opens l' (head-same (t .head) ∙ o .head) (k .1) (ap sound (k .2) ∙ fine); bytes = k .2 })
 
-  pub committed-reads : (t : ℕ) → (countIn Image l' t ≡ countIn Space w t) × (showIn Image l' t ≡ showIn Space w t)
-  unfolding homeIn
-  committed-reads t =
-      let c = committed in
-      let i = reads-list Image l' t (c .gate) in
-      let s = reads-list Space w t (space-opens w (c .fine)) in
-      let e : listOf (home l') t ≡ listOf w t = ap (λ (x : List ℕ). listOf x t) (c .bytes) in
-      (i .0 ∙ ap (λ (x : List Record). Count (length x)) e ∙ sym (s .0), i .1 ∙ ap recordBytes e ∙ sym (s .1))
+  pub committed-reads : ReadsAs l' w
+  committed-reads = home-reads l' w (committed .gate) (committed .bytes)
 
   -- the step code is the workspace's then, also where the image had the other one
   pub committed-step : stepOf (home l') ≡ stepOf w

@@ -14,7 +14,7 @@ use Rattle.home.specs.declared.Answer.{Answer}
 use Rattle.home.specs.declared.Answer.the-variants.{Count, Refused}
 use Rattle.gates.specs.declared.Of.{Of}
 use Rattle.gates.specs.Gates.{gateRules}
-use Rattle.reads.specs.Reads.{countIn}
+use Rattle.reads.specs.Reads.{countIn, rankIn}
 use Rattle.reads.specs.Merges.{mergeIn}
 use Rattle.index.specs.declared.Begun.{Begun}
 use Rattle.index.specs.declared.Begun.the-variants.{Done as Copied, Refused as NotBegun}
@@ -28,6 +28,7 @@ pub data Call : Type 0 where
   setMinutes : List ℕ → ℕ → ℕ → ℕ → Call
   dropTag : List ℕ → ℕ → Call
   count : Of → List ℕ → ℕ → Call
+  rank : Of → List ℕ → ℕ → ℕ → Call
   merge : Merge → Of → List ℕ → ℕ → ℕ → List ℕ → Call
   commit : (List ℕ → Bool) → List ℕ → List ℕ → ℕ → Call
   recover : List ℕ → ℕ → Call
@@ -42,6 +43,7 @@ rulesOf (delete w t k) = deleteCall w t k .rules
 rulesOf (setMinutes w t k m) = setCall w t k m .rules
 rulesOf (dropTag w t) = dropCall w t .rules
 rulesOf (count of bs t) = gateRules of bs
+rulesOf (rank of bs t k) = gateRules of bs
 rulesOf (merge m of bs t u out) = mergeIn m of bs t u out .rules
 rulesOf (commit accept l w n) = commitRules accept l w
 rulesOf (recover l n) = recoverRules l
@@ -68,6 +70,7 @@ refusedWith (delete w t k) = ofAnswer (answered Refused (deleteCall w t k))
 refusedWith (setMinutes w t k m) = ofAnswer (answered Refused (setCall w t k m))
 refusedWith (dropTag w t) = ofAnswer (answered Refused (dropCall w t))
 refusedWith (count of bs t) = ofAnswer (countIn of bs t)
+refusedWith (rank of bs t k) = ofAnswer (rankIn of bs t k)
 refusedWith (merge m of bs t u out) = ofAnswer (answered Refused (mergeIn m of bs t u out))
 refusedWith (commit accept l w n) = ofOutcome (answer (commitPlan accept l w) n)
 refusedWith (recover l n) = ofOutcome (answer (recoverPlan l) n)
@@ -81,6 +84,7 @@ lent (delete w t k) = w
 lent (setMinutes w t k m) = w
 lent (dropTag w t) = w
 lent (count of bs t) = []
+lent (rank of bs t k) = []
 lent (merge m of bs t u out) = out
 lent (commit accept l w n) = l
 lent (recover l n) = l
@@ -93,6 +97,7 @@ givenBack (delete w t k) = left (deleteCall w t k) w
 givenBack (setMinutes w t k m) = left (setCall w t k m) w
 givenBack (dropTag w t) = left (dropCall w t) w
 givenBack (count of bs t) = []
+givenBack (rank of bs t k) = []
 givenBack (merge m of bs t u out) = left (mergeIn m of bs t u out) out
 givenBack (commit accept l w n) = after (commitPlan accept l w) n l
 givenBack (recover l n) = after (recoverPlan l) n l

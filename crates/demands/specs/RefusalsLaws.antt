@@ -16,11 +16,11 @@ use Rattle.home.specs.declared.Answer.the-variants.{Refused}
 use Rattle.layout.specs.Edits.{put as putEdit, delete as deleteEdit, setMinutes as setEdit, dropTag as dropEdit}
 use Rattle.gates.specs.declared.Of.the-variants.{Image, Space}
 use Rattle.gates.specs.Gates.{gateRules}
-use Rattle.reads.specs.Reads.{countIn}
+use Rattle.reads.specs.Reads.{countIn, rankIn}
 use Rattle.reads.specs.Merges.{mergeIn}
 use Rattle.index.specs.declared.Begun.the-variants.{Refused as NotBegun}
 use Rattle.index.specs.Calls.{beginCall, putCall, deleteCall, setCall, dropCall, formatRules, formatPlan}
-use Rattle.demands.specs.Refusals.{Call, begin, put, delete, setMinutes, dropTag, count, merge, commit, recover, format, rulesOf, ofAnswer, ofBegun, ofOutcome, refusedWith, lent, givenBack}
+use Rattle.demands.specs.Refusals.{Call, begin, put, delete, setMinutes, dropTag, count, rank, merge, commit, recover, format, rulesOf, ofAnswer, ofBegun, ofOutcome, refusedWith, lent, givenBack}
 
 -- ---- which numbers each call can be refused with, in which order
 
@@ -58,6 +58,14 @@ module _ (l w : List ℕ) (t u n : ℕ) (m : Merge) (out : List ℕ) where
   unfolding rulesOf gateRules numbers
   count-space-numbers = refl
 
+  rank-image-numbers : (k : ℕ) → numbers (rulesOf (rank Image l t k)) ≡ 1 ∷ 3 ∷ 5 ∷ []
+  unfolding rulesOf gateRules numbers
+  rank-image-numbers k = refl
+
+  rank-space-numbers : (k : ℕ) → numbers (rulesOf (rank Space w t k)) ≡ 6 ∷ 7 ∷ []
+  unfolding rulesOf gateRules numbers
+  rank-space-numbers k = refl
+
   merge-image-numbers : numbers (rulesOf (merge m Image l t u out)) ≡ 1 ∷ 3 ∷ 5 ∷ 15 ∷ []
   unfolding rulesOf mergeIn gateRules numbers
   merge-image-numbers = refl
@@ -80,13 +88,14 @@ planned rs ss n = exactly (λ (p : Plan). ofOutcome (answer p n)) refuse rs (sto
 
 -- "where none applies the call isn't refused"
 pub refused-exactly : (c : Call) → refusedWith c ≡ refusal (rulesOf c)
-unfolding refusedWith rulesOf ofAnswer ofBegun beginCall putCall deleteCall setCall dropCall mergeIn countIn commitPlan recoverPlan formatPlan
+unfolding refusedWith rulesOf ofAnswer ofBegun beginCall putCall deleteCall setCall dropCall mergeIn countIn rankIn commitPlan recoverPlan formatPlan
 refused-exactly (begin l w) = exactly ofBegun NotBegun _ _ (λ n. refl) refl
 refused-exactly (put w t r) = exactly ofAnswer Refused _ _ (λ n. refl) refl
 refused-exactly (delete w t k) = exactly ofAnswer Refused _ _ (λ n. refl) refl
 refused-exactly (setMinutes w t k m) = exactly ofAnswer Refused _ _ (λ n. refl) refl
 refused-exactly (dropTag w t) = exactly ofAnswer Refused _ _ (λ n. refl) refl
 refused-exactly (count of bs t) = exactly ofAnswer Refused _ _ (λ n. refl) refl
+refused-exactly (rank of bs t k) = exactly ofAnswer Refused _ _ (λ n. refl) refl
 refused-exactly (merge m of bs t u out) = exactly ofAnswer Refused _ _ (λ n. refl) refl
 refused-exactly (commit accept l w n) = planned _ _ n
 refused-exactly (recover l n) = planned _ _ n
@@ -109,6 +118,7 @@ unchanged (delete w t k) n e = stays (deleteCall w t k) w n e
 unchanged (setMinutes w t k m) n e = stays (setCall w t k m) w n e
 unchanged (dropTag w t) n e = stays (dropCall w t) w n e
 unchanged (count of bs t) n e = refl
+unchanged (rank of bs t k) n e = refl
 unchanged (merge m of bs t u out) n e = stays (mergeIn m of bs t u out) out n e
 unchanged (commit accept l w n) r e = unstored _ _ n r l e
 unchanged (recover l n) r e = unstored _ _ n r l e

@@ -13,11 +13,10 @@ use Rattle.wire.specs.Bytes.{pick, get16, isSome}
 use Rattle.wire.specs.Rules.{first, refusal, Ruled, answered, left}
 use Rattle.wire.specs.RulesLaws.{is-refused, is-done}
 use Rattle.wire.specs.BytesLaws.{over-whole}
-use Rattle.wire.specs.Cases.{by-test, never, leb-iff, not-leb}
+use Rattle.wire.specs.Cases.{never, leb-iff, not-leb}
 use Rattle.wire.specs.All.{more, none as nothing}
 use Rattle.records.specs.declared.Record.{Record}
-use Rattle.records.specs.declared.Rank.the-variants.{Found, Absent}
-use Rattle.records.specs.Records.{Fits, key, risingFrom, rising, look, held, rank, ranked as rankedIn, insert, amend, up, inserted, bytesOf, encode as recordBytes, decode as recordsIn}
+use Rattle.records.specs.Records.{Fits, key, risingFrom, rising, look, held, insert, amend, up, inserted, bytesOf, encode as recordBytes, decode as recordsIn}
 use Rattle.records.specs.Moves.{length-up}
 use Rattle.records.specs.Cells.{length-bytesOf}
 use Rattle.records.specs.Edits.{length-encode, decode-encode}
@@ -48,23 +47,6 @@ use Rattle.lists.specs.ListedLaws.{listed-has, listed-lying, listed-many}
 use Rattle.lists.specs.RecordLaws.{without-is, left-many, new-many, new-proper, set-changed}
 use Rattle.lists.specs.Listed.{changed, without, Listed, Missing, Ranked}
 use Rattle.edits.specs.Edits.{edited, putIn, deleteIn, setIn, dropIn, fitsAfter}
-
--- ---- what a search finds
-
-found-clash : {G : Type 0} (i j : ℕ) → Absent i ≡ Found j → G
-found-clash i j e = let z : _≡_ {A = ℕ} 0 1 = cc in absurd (omega arith)
-
-pub found-held : (k j : ℕ) (rs : List Record) → Found j ≡ rankedIn k rs → (held (look k rs) ≡ true) × (rank k rs ≡ j)
-unfolding rankedIn
-found-held k j rs e = by-test (held (look k rs))
-    (λ p. let f : Found j ≡ Found (rank k rs) = rw p at e in (p, cc))
-    (λ p. found-clash (rank k rs) j (sym (rw p at e)))
-
-pub absent-held : (k j : ℕ) (rs : List Record) → Absent j ≡ rankedIn k rs → (held (look k rs) ≡ false) × (rank k rs ≡ j)
-unfolding rankedIn
-absent-held k j rs e = by-test (held (look k rs))
-    (λ p. found-clash j (rank k rs) (rw p at e))
-    (λ p. let f : Absent j ≡ Absent (rank k rs) = rw p at e in (p, cc))
 
 rising-one : (r : Record) → rising (r ∷ []) ≡ true
 unfolding risingFrom

@@ -19,7 +19,7 @@ use Rattle.gates.specs.Gates.{gateRules, homeIn}
 use Rattle.gates.specs.GatesLaws.{home-fine}
 use Rattle.reads.specs.Reads.{listIn, countIn, showIn}
 use Rattle.reads.specs.ReadsLaws.{show-open}
-use Rattle.reads.specs.MergesLaws.{sound-listed, list-reads}
+use Rattle.reads.specs.ReadsLaws.{sound-listed, list-reads}
 use Rattle.parse.specs.declared.Command.{Command}
 use Rattle.print.specs.Print.{listLines, longest, noLine}
 use Rattle.lines.specs.declared.Printed.the-variants.{Bytes, Short}

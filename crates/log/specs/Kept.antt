@@ -8,7 +8,7 @@ use mathlib.Core.List.{List, [], _∷_, _++_}
 use lib.ListN.{length}
 use lib.Dec.{leb, eqb}
 use borrow.Author.Tests.{eqb-true, leb-true, ne-eqb, not-false}
-use Rattle.wire.specs.Cases.{by-test, by-eq}
+use Rattle.wire.specs.Cases.{by-test, by-lt, by-eq}
 use Rattle.wire.specs.RulesLaws.{first-refused, first-passed, passes, by-refusal, unrefused}
 use Rattle.wire.specs.All.{All, none, more}
 use Rattle.redo.specs.Store.{Store, apply}
@@ -67,6 +67,11 @@ pub record Finds (n v k : ℕ) (old w found : List ℕ) : Type 0 where
   pub halfwayClear : n ≡ 66 * k + 2 → v ≡ 0 → found ≡ old
   pub halfwaySet : n ≡ 66 * k + 2 → v ≡ 165 → found ≡ w
 
+-- either way one of the two, entire
+pub one-found : (n v k : ℕ) (old w found : List ℕ) → Finds n v k old w found → (found ≡ old) ⊎ (found ≡ w)
+one-found n v k old w found f =
+    by-lt n (66 * k + 2) (λ g. inl (f .before g)) (λ g. by-eq n (66 * k + 2) (f .halfway) (λ d. inr (f .whole (omega arith))))
+
 -- what is found in x: with mark 0 home at once, and with any mark what the first recovery to finish leaves, with mark 0
 pub record Found (n v k : ℕ) (old w x : List ℕ) : Type 0 where
   pub atOnce : mark x ≡ 0 → Finds n v k old w (home x)
@@ -121,7 +126,7 @@ module _ (accept : List ℕ → Bool) (L : ℕ) where
       told-new v = by-test (eqb v 165) (λ e. rw e) (λ e. rw e)
 
 -- only such an image does not refuse a commit
-starts : (accept : List ℕ → Bool) (l w : List ℕ) {ss : List Store} → commitPlan accept l w ≡ store ss → Starts accept l
+pub starts : (accept : List ℕ → Bool) (l w : List ℕ) {ss : List Store} → commitPlan accept l w ≡ store ss → Starts accept l
 unfolding commitPlan commitRules
 starts accept l w {ss} is =
     let e = unrefused refuse (commitRules accept l w) (store (commitStores (homeAt l) (changedPages l w))) (store ss) (not-store ss) is in

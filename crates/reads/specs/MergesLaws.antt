@@ -1,4 +1,4 @@
--- A tag's list read from its bytes, and the answers of a merge.
+-- The answers of a merge.
 use mathlib.Core.Path.{_≡_, ap, ap₂, _∙_}
 use mathlib.Core.Bool.{true}
 use Prim.Native.Nat.{ℕ, _*_, _≤_, _<_}
@@ -13,30 +13,15 @@ use Rattle.records.specs.declared.Record.{Record}
 use Rattle.merges.specs.declared.Merge.{Merge}
 use Rattle.records.specs.Records.{encode, decode}
 use Rattle.merges.specs.Merging.{merge}
-use Rattle.records.specs.Edits.{decode-encode}
-use Rattle.layout.specs.Capacities.{cells, classOf}
-use Rattle.layout.specs.CapacitiesLaws.{rising as rises}
-use Rattle.layout.specs.EditsLaws.{valid-listed}
-use Rattle.home.specs.HomeLaws.{all-mem}
-use Rattle.home.specs.Bytes.{stepOf, decode as zonesIn}
-use Rattle.home.specs.Sound.{pagesOf, sound, listOf}
-use Rattle.home.specs.SoundLaws.{sound-valid}
+use Rattle.home.specs.Sound.{sound, listOf}
 use Rattle.home.specs.declared.Answer.{Answer}
 use Rattle.home.specs.declared.Answer.the-variants.{Count, Refused}
-use Rattle.layout.specs.Valid.{Proper}
 use Rattle.gates.specs.declared.Of.{Of}
 use Rattle.gates.specs.Gates.{gateRules, homeIn}
 use Rattle.gates.specs.GatesLaws.{home-fine}
 use Rattle.reads.specs.Reads.{listIn}
+use Rattle.reads.specs.ReadsLaws.{list-reads}
 use Rattle.reads.specs.Merges.{written, mergeIn}
-
--- lists of a sound home are rising and their values fit
-pub sound-listed : (h : List ℕ) (t : ℕ) → sound h ≡ true → Proper (listOf h t)
-unfolding listOf
-sound-listed h t e = valid-listed (cells (stepOf h)) (classOf (stepOf h)) (rises (stepOf h)) (8 * pagesOf h) t (zonesIn h) (sound-valid h e)
-
-pub list-reads : (h : List ℕ) (t : ℕ) (bs : List ℕ) → sound h ≡ true → bs ≡ encode (listOf h t) → decode bs ≡ listOf h t
-list-reads h t bs e f = ap decode f ∙ decode-encode (listOf h t) (all-mem (listOf h t) (sound-listed h t e .fits))
 
 -- a merge of what was read is the merge of the two lists
 pub merged-is : (m : Merge) (h : List ℕ) (t u : ℕ) (xs ys : List ℕ) → sound h ≡ true → xs ≡ encode (listOf h t) → ys ≡ encode (listOf h u)

@@ -4,7 +4,7 @@ use mathlib.Core.List.{List, []}
 use lib.ListN.{length}
 use Rattle.wire.specs.Rules.{first}
 use Rattle.records.specs.declared.Record.{Record}
-use Rattle.records.specs.Records.{encode}
+use Rattle.records.specs.Records.{below, encode}
 use Rattle.home.specs.declared.Answer.{Answer}
 use Rattle.home.specs.declared.Answer.the-variants.{Count, Refused}
 use Rattle.home.specs.Lookup.{offsetOf}
@@ -19,6 +19,10 @@ listIn of bs t = listOf (homeIn of bs) t
 -- "Count a list (an unknown tag has 0)"
 unfoldable pub countIn : Of → List ℕ → ℕ → Answer
 countIn of bs t = first Refused (gateRules of bs) (Count (length (listIn of bs t)))
+
+-- "of a tag and a primary part, listed or not, the number of the tag's records before it, 0 for an unknown tag": by the key of that part
+unfoldable pub rankIn : Of → List ℕ → ℕ → ℕ → Answer
+rankIn of bs t k = first Refused (gateRules of bs) (Count (below k (listIn of bs t)))
 
 -- "and show it: the part of the lent bytes that holds its records, empty for an unknown tag and on refusal"
 unfoldable pub showIn : Of → List ℕ → ℕ → List ℕ

@@ -1,14 +1,16 @@
-// The reads of an image or of a workspace: count, show and the merges.
+// The reads of an image or of a workspace: count, rank, show and the merges.
 use gates::Access;
 use gates::Of;
 use home::Answer;
 use merges::Merge;
+use records::Rank;
+use records::Record;
 ghost use mathlib.Core.Path.{_≡_};
 ghost use Prim.Native.Nat.{_+_};
 ghost use Rattle.wire.specs.Rules.{answered, left};
-ghost use Rattle.records.specs.Records.{decode};
+ghost use Rattle.records.specs.Records.{key, decode};
 ghost use Rattle.merges.specs.Merging.{merge as merged};
-ghost use Rattle.reads.specs.Reads.{countIn, showIn, showFrom};
+ghost use Rattle.reads.specs.Reads.{countIn, rankIn, showIn, showFrom};
 ghost use Rattle.reads.specs.Merges.{written, mergeIn};
 
 // Counts a tag's list.
@@ -18,6 +20,22 @@ pub fn count(of: Of, bytes: &[u8], tag: u32) -> Answer
     match gates::gate(of, bytes) {
         Access::Open => Answer::Count(home::lookup::count(gates::home(of, bytes), tag)),
         Access::Refused(r) => Answer::Refused(r),
+    }
+}
+
+// Counts the records of a tag's list before a record's primary part, which need not be listed.
+pub fn rank(of: Of, bytes: &[u8], tag: u32, r: Record) -> Answer
+    ensures { λ a. ⌜ a ≡ rankIn of (now (bytes .entry)) tag (key r) ⌝ }
+{
+    match gates::gate(of, bytes) {
+        Access::Open => {
+            let list = home::lookup::list(gates::home(of, bytes), tag);
+            match records::search(list, records::key_of(r)) {
+                Rank::Found(i) => Answer::Count(i),
+                Rank::Absent(i) => Answer::Count(i),
+            }
+        }
+        Access::Refused(n) => Answer::Refused(n),
     }
 }
 

@@ -5,7 +5,7 @@ use mathlib.Core.Bool.{true, false}
 use mathlib.Core.List.{List, [], _∷_}
 use Rattle.records.specs.declared.Record.{Record}
 use Rattle.records.specs.declared.Rank.the-variants.{Found, Absent}
-use Rattle.records.specs.Records.{key, before, risingFrom, rising, look, rank, ranked, insert, remove, amend, bytesOf, encode, recordAt, records, decode, inserted, removed, amended, up, down}
+use Rattle.records.specs.Records.{key, before, risingFrom, rising, look, rank, ranked, tally, many, below, insert, remove, amend, bytesOf, encode, recordAt, records, decode, inserted, removed, amended, up, down}
 use Rattle.wire.specs.Bytes.{part, over, get16, get32, bytes16, bytes32}
 
 abbrev call : ℕ → ℕ → ℕ → ℕ → Record
@@ -36,6 +36,23 @@ tie = refl
 between : ranked (key (call 1 100 4 0)) sample ≡ Absent 2
 unfolding ranked look rank key
 between = refl
+
+-- third in line: two calls before it, whatever its minutes, which itself is not counted; as many before one that would stand there
+third : below (key (call 1 100 9 5)) sample ≡ 2
+unfolding many tally key
+third = refl
+
+absent-third : below (key (call 1 100 4 0)) sample ≡ 2
+unfolding many tally key
+absent-third = refl
+
+last : below (key (call 2 0 0 0)) sample ≡ 3
+unfolding many tally key
+last = refl
+
+unknown : below (key (call 1 100 9 0)) [] ≡ 0
+unfolding many
+unknown = refl
 
 -- numbers are unsigned
 unsigned : before (call 127 0 0 0) (call 128 0 0 0) ≡ true

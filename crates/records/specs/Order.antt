@@ -1,6 +1,6 @@
 -- Laws of the order and of single lists: each edit keeps a list rising, and what it holds afterwards.
-use mathlib.Core.Path.{_≡_, refl, sym, ap, _∙_}
-use mathlib.Core.Bool.{true, false, _&&_}
+use mathlib.Core.Path.{_≡_, refl, sym, ap, ap₂, _∙_}
+use mathlib.Core.Bool.{Bool, true, false, _&&_}
 use mathlib.Core.Option.{Option, none, some}
 use mathlib.Core.List.{List, [], _∷_, _++_, List·Memᴰ, List·Memᴰ·head, List·Memᴰ·tail}
 use Prim.Native.Nat.{ℕ, zero, suc, _+_, _≤_, _<_}
@@ -8,11 +8,12 @@ use native.Mathlib.Omega.{arith}
 use lib.ListN.{length, take, drop, set, getD}
 use lib.Dec.{ltb, leb, eqb}
 use borrow.Author.Tests.{ltb-true, lt-ltb, le-ltb, le-leb, leb-true, eq-eqb, ne-eqb}
+use Rattle.wire.specs.All.{All, none as nothing, more}
 use Rattle.wire.specs.Bytes.{pick}
 use Rattle.wire.specs.Cases.{by-test, by-lt, by-eq, both, never, bool-iff, ltb-iff}
 use Rattle.records.specs.declared.Record.{Record}
 use Rattle.records.specs.declared.Rank.the-variants.{Found, Absent}
-use Rattle.records.specs.Records.{Fits, key, before, risingFrom, rising, look, held, rank, ranked, below, tally, insert, remove, lasting, amend}
+use Rattle.records.specs.Records.{Fits, key, before, risingFrom, rising, look, held, rank, ranked, many, below, tally, insert, remove, lasting, amend}
 
 -- ---- the order is that of the keys
 
@@ -185,20 +186,35 @@ rank-under k (suc i) (x ∷ xs) z g h =
 
 -- in a rising list rank counts all records with lower keys
 below-none : (k low : ℕ) (xs : List Record) → k ≤ low → risingFrom low xs ≡ true → below k xs ≡ 0
-unfolding below tally
+unfolding many tally
 below-none k low [] g e = refl
 below-none k low (x ∷ xs) g e =
     let a = rising-parts low x xs e in
     rw (le-ltb (key x) k (omega arith)) (ap (λ (n : ℕ). 0 + n) (below-none k (key x + 1) xs (omega arith) (a .1)))
 
 pub rank-below : (k low : ℕ) (xs : List Record) → risingFrom low xs ≡ true → rank k xs ≡ below k xs
-unfolding below tally
+unfolding many tally
 rank-below k low [] e = rank-nil k
 rank-below k low (x ∷ xs) e =
     let a = rising-parts low x xs e in
     by-lt (key x) k
     (λ h. let b = rank-below k (key x + 1) xs (a .1) in rw (rank-past k x xs h, lt-ltb (key x) k h) (omega arith))
     (λ h. let b = below-none k (key x + 1) xs (omega arith) (a .1) in rw (rank-here k x xs h, le-ltb (key x) k h) (omega arith))
+
+-- and those that stand before a record by level, second, phone
+pub below-before : (r : Record) (xs : List Record) → Fits r → All Fits xs → below (key r) xs ≡ many (λ x. before x r) xs
+unfolding many
+below-before r [] f nothing = refl
+below-before r (x ∷ xs) f (more g h) = ap₂ (λ (b : Bool) (n : ℕ). tally b + n) (sym (before-key x r g f)) (below-before r xs f h)
+
+-- a listed record's rank is its place
+pub rank-place : (low i : ℕ) (xs : List Record) (z : Record) → risingFrom low xs ≡ true → i < length xs → rank (key (getD xs i z)) xs ≡ i
+rank-place low i [] z e g = absurd (omega arith)
+rank-place low zero (x ∷ xs) z e g = rank-here (key x) x xs (omega arith)
+rank-place low (suc i) (x ∷ xs) z e g =
+    let a = rising-parts low x xs e in
+    let b = rising-at (key x + 1) i xs z (a .1) (omega arith) in
+    rank-past (key (getD xs i z)) x xs (omega arith) ∙ ap suc (rank-place (key x + 1) i xs z (a .1) (omega arith))
 
 -- the key is there if it stands at its rank
 pub held-rank : (k low : ℕ) (xs : List Record) (z : Record) → risingFrom low xs ≡ true → rank k xs < length xs → held (look k xs) ≡ eqb (key (getD xs (rank k xs) z)) k
@@ -235,6 +251,22 @@ pub ranked-end : (k i : ℕ) (xs : List Record) → rank k xs ≡ i → i ≡ le
 unfolding ranked
 ranked-end k i xs q g = let a : held (look k xs) ≡ false = held-end k xs (q ∙ g) in rw (a, q)
 
+-- and what a search has found
+found-clash : {G : Type 0} (i j : ℕ) → Absent i ≡ Found j → G
+found-clash i j e = let z : _≡_ {A = ℕ} 0 1 = cc in absurd (omega arith)
+
+pub found-held : (k j : ℕ) (rs : List Record) → Found j ≡ ranked k rs → (held (look k rs) ≡ true) × (rank k rs ≡ j)
+unfolding ranked
+found-held k j rs e = by-test (held (look k rs))
+    (λ p. let f : Found j ≡ Found (rank k rs) = rw p at e in (p, cc))
+    (λ p. found-clash (rank k rs) j (sym (rw p at e)))
+
+pub absent-held : (k j : ℕ) (rs : List Record) → Absent j ≡ ranked k rs → (held (look k rs) ≡ false) × (rank k rs ≡ j)
+unfolding ranked
+absent-held k j rs e = by-test (held (look k rs))
+    (λ p. found-clash j (rank k rs) (rw p at e))
+    (λ p. let f : Absent j ≡ Absent (rank k rs) = rw p at e in (p, cc))
+
 -- ---- insert
 
 pub insert-rising : (low : ℕ) (r : Record) (xs : List Record) → low ≤ key r → look (key r) xs ≡ none → risingFrom low xs ≡ true → risingFrom low (insert r xs) ≡ true
@@ -266,6 +298,41 @@ insert-rank r (x ∷ xs) =
     by-lt (key x) (key r)
     (λ d. rw (insert-past r x xs d, rank-past (key r) x (insert r xs) d, rank-past (key r) x xs d) (ap suc (insert-rank r xs)))
     (λ d. rw (insert-here r x xs d, rank-here (key r) x xs d) (rank-here (key r) r (x ∷ xs) (omega arith)))
+
+-- any key's rank rises by one exactly if the record stands before it
+pub insert-below : (k : ℕ) (r : Record) (xs : List Record) → below k (insert r xs) ≡ below k xs + tally (ltb (key r) k)
+unfolding many
+insert-below k r [] = rw insert-nil (omega arith)
+insert-below k r (x ∷ xs) =
+    by-lt (key x) (key r)
+    (λ d. rw (insert-past r x xs d) (omega (arith, insert-below k r xs)))
+    (λ d. rw (insert-here r x xs d) (omega arith))
+
+-- the record stands at its rank, those before it where they stood, and those behind it one further
+pub insert-there : (r : Record) (xs : List Record) (z : Record) → getD (insert r xs) (rank (key r) xs) z ≡ r
+insert-there r [] z = rw (insert-nil, rank-nil)
+insert-there r (x ∷ xs) z =
+    by-lt (key x) (key r)
+    (λ d. rw (insert-past r x xs d, rank-past (key r) x xs d) (insert-there r xs z))
+    (λ d. rw (insert-here r x xs d, rank-here (key r) x xs d))
+
+pub insert-before : (r : Record) (xs : List Record) (j : ℕ) (z : Record) → j < rank (key r) xs → getD (insert r xs) j z ≡ getD xs j z
+insert-before r [] j z g = absurd (omega (arith, rank-nil (key r)))
+insert-before r (x ∷ xs) zero z g =
+    by-lt (key x) (key r) (λ d. rw (insert-past r x xs d)) (λ d. absurd (omega (arith, rank-here (key r) x xs d)))
+insert-before r (x ∷ xs) (suc j) z g =
+    by-lt (key x) (key r)
+    (λ d. rw (insert-past r x xs d) (insert-before r xs j z (omega (arith, rank-past (key r) x xs d))))
+    (λ d. absurd (omega (arith, rank-here (key r) x xs d)))
+
+pub insert-behind : (r : Record) (xs : List Record) (j : ℕ) (z : Record) → rank (key r) xs ≤ j → getD (insert r xs) (suc j) z ≡ getD xs j z
+insert-behind r [] j z g = rw insert-nil
+insert-behind r (x ∷ xs) zero z g =
+    by-lt (key x) (key r) (λ d. absurd (omega (arith, rank-past (key r) x xs d))) (λ d. rw (insert-here r x xs d))
+insert-behind r (x ∷ xs) (suc j) z g =
+    by-lt (key x) (key r)
+    (λ d. rw (insert-past r x xs d) (insert-behind r xs j z (omega (arith, rank-past (key r) x xs d))))
+    (λ d. rw (insert-here r x xs d))
 
 -- once put in, a record is found at the rank that was foretold
 pub insert-ranked : (r : Record) (xs : List Record) → ranked (key r) (insert r xs) ≡ Found (rank (key r) xs)

@@ -58,10 +58,14 @@ unfoldable pub rank : ℕ → List Record → ℕ
 rank k [] = 0
 rank k (x ∷ xs) = pick (ltb (key x) k) (suc (rank k xs)) 0
 
--- the same for records in any order
-unfoldable pub below : ℕ → List Record → ℕ
-below k [] = 0
-below k (x ∷ xs) = tally (ltb (key x) k) + below k xs
+-- how many records pass a test
+unfoldable pub many : (Record → Bool) → List Record → ℕ
+many p [] = 0
+many p (x ∷ xs) = tally (p x) + many p xs
+
+-- "the number of the tag's records before it": in whatever order they stand
+abbrev pub below : ℕ → List Record → ℕ
+below k xs = many (λ x. ltb (key x) k) xs
 
 -- whether a key is there, and its rank
 unfoldable pub ranked : ℕ → List Record → Rank

@@ -1,8 +1,9 @@
 use native.Mathlib.Omega.{arith}
 use mathlib.Core.Path.{sym, ap, _∙_}
 use Rattle.records.specs.Records.{ranked as rankedIn}
+use Rattle.records.specs.Order.{found-held, absent-held}
 use Rattle.lists.specs.ListedLaws.{listed-inside, listed-rising, listed-records, listed-some}
-use Rattle.edits.specs.EditsLaws.{found-held, absent-held, delete-none, delete-done}
+use Rattle.edits.specs.EditsLaws.{delete-none, delete-done}
 use borrow.Author.Needs.{needs}
 use Rattle.edits.proofs.delete_known.Statement.{statement}
 use Rattle.edits.proofs.delete_known.Tie as tie

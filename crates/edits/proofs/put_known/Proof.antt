@@ -1,8 +1,9 @@
 use mathlib.Core.Path.{sym, ap₂, _∙_}
 use native.Mathlib.Omega.{arith}
 use Rattle.records.specs.Records.{key, ranked as rankedIn}
+use Rattle.records.specs.Order.{found-held, absent-held}
 use Rattle.lists.specs.ListedLaws.{listed-inside, listed-rising, listed-records}
-use Rattle.edits.specs.EditsLaws.{found-held, absent-held, put-held}
+use Rattle.edits.specs.EditsLaws.{put-held}
 use borrow.Author.Needs.{needs}
 use Rattle.edits.proofs.put_known.Statement.{statement}
 use Rattle.edits.proofs.put_known.Tie as tie

@@ -1,9 +1,10 @@
 use mathlib.Core.Path.{sym, ap, _∙_}
 use native.Mathlib.Omega.{arith}
 use Rattle.records.specs.Records.{ranked as rankedIn}
+use Rattle.records.specs.Order.{found-held, absent-held}
 use Rattle.lists.specs.ListedLaws.{listed-inside, listed-rising, listed-records}
 use Rattle.lists.specs.RecordLaws.{ranked-under}
-use Rattle.edits.specs.EditsLaws.{found-held, absent-held, set-none, set-done}
+use Rattle.edits.specs.EditsLaws.{set-none, set-done}
 use borrow.Author.Needs.{needs}
 use Rattle.edits.proofs.set_known.Statement.{statement}
 use Rattle.edits.proofs.set_known.Tie as tie

@@ -1,3 +1,4 @@
+use mathlib.Core.Path.{refl}
 use Rattle.records.specs.Records.{key}
 use borrow.Author.Needs.{needs}
 use Rattle.records.proofs.key_of.Statement.{statement}
@@ -26,7 +27,7 @@ add-result-2 c = search needs
 
 returns : tie.Need-returns
 unfolding key
-returns c = cc
+returns c = refl
 
 pub key-of-spec : {M : Type 1} → statement M
 key-of-spec =
