@@ -228,6 +228,11 @@ pub fn count_image(image: &[u8], tag: u32) -> Result<u32, u8> {
     Ok(list(&image[open(image)?..], tag).len() as u32 / 8)
 }
 
+pub fn rank_image(image: &[u8], tag: u32, r: [u8; 8]) -> Result<u32, u8> {
+    let list = list(&image[open(image)?..], tag).as_chunks::<8>().0;
+    Ok(list.partition_point(|x| key(x) < key(&r)) as u32)
+}
+
 pub fn show_image(image: &[u8], tag: u32) -> &[u8] {
     match open(image) {
         Ok(home) => list(&image[home..], tag),

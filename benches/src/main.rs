@@ -22,6 +22,7 @@ fn main() {
     #[cfg(sqlite)]
     against_sqlite(repeats);
     by_size(repeats);
+    ranks(repeats);
     laid_afresh(repeats);
     placing(repeats);
     moves::table();
@@ -230,8 +231,8 @@ fn hand_puts(image: &mut [u8], space: &mut [u8], row: &[(u32, Record)]) {
 
 fn against_hand(repeats: usize) {
     println!("\nCalls on half-full images, as a multiple of hand-written Rust with the same checks\n");
-    println!("| R | begin + put + commit | count | show | either | recover |");
-    println!("|---|---|---|---|---|---|");
+    println!("| R | begin + put + commit | count | rank | show | either | recover |");
+    println!("|---|---|---|---|---|---|---|");
     for pages in SIZES {
         let mut b = filled(pages, Fill::Half);
         let row = puts(&mut b);
@@ -261,6 +262,14 @@ fn against_hand(repeats: usize) {
                 &mut || _ = black_box(hand::count_image(black_box(image), 7)),
             ],
         );
+        let middle = cix::records(cix::show_image(image, 7)).nth(cix::count_image(image, 7).unwrap() as usize / 2).unwrap();
+        let rank = Race::run(
+            repeats,
+            vec![
+                &mut || _ = black_box(cix::rank_image(black_box(image), 7, middle)),
+                &mut || _ = black_box(hand::rank_image(black_box(image), 7, bytes(middle))),
+            ],
+        );
         let show = Race::run(
             repeats,
             vec![
@@ -279,7 +288,15 @@ fn against_hand(repeats: usize) {
         assert!(out1 == out2);
         let recover = recoveries(&b, repeats);
         let r = |race: Race| format!("{:.2}", race.ratio(0, 1));
-        println!("| {pages} | {} | {} | {} | {} | {} |", r(put), r(count), r(show), r(either), r(recover));
+        println!(
+            "| {pages} | {} | {} | {} | {} | {} | {} |",
+            r(put),
+            r(count),
+            r(rank),
+            r(show),
+            r(either),
+            r(recover)
+        );
     }
 }
 
@@ -374,6 +391,31 @@ fn by_size(repeats: usize) {
         let each = race.time(0) / row.len() as f64;
         let base = *base.get_or_insert(each);
         println!("| {pages} | {} | {:.1} | {:.2} |", b.image.len(), each / base, each / 1000.0);
+    }
+}
+
+// ---- a search in a list
+
+fn ranks(repeats: usize) {
+    println!("\nA rank in a list that is alone in a workspace of R = 128, in nanoseconds\n");
+    println!("| records | count | rank | difference |");
+    println!("|---|---|---|---|");
+    for n in [1, 10, 100, 989] {
+        let mut b = filled(128, Fill::Empty);
+        for second in 0..n {
+            cix::put(&mut b.space, 7, Record { level: 1, second, phone: 9, minutes: 0 }).unwrap();
+        }
+        let space = &b.space[..];
+        let asked = Record { level: 1, second: n / 2, phone: 0, minutes: 0 };
+        assert_eq!(cix::rank_space(space, 7, asked), Ok(n / 2));
+        let race = Race::run(
+            repeats,
+            vec![
+                &mut || _ = black_box(cix::count_space(black_box(space), 7)),
+                &mut || _ = black_box(cix::rank_space(black_box(space), 7, asked)),
+            ],
+        );
+        println!("| {n} | {:.0} | {:.0} | {:.0} |", race.time(0), race.time(1), race.above(1, 0));
     }
 }
 

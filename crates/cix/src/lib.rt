@@ -198,34 +198,34 @@ pub extern "C" fn cix_count_space(space: &[u8], tag: u32) -> u64
     of_answer(a)
 }
 
-// Counts the records of a tag's list in an image before a primary part.
+// Counts the records of a tag's list before a primary part, in what is lent.
+fn rank_in(of: Of, bytes: &[u8], tag: u32, level: u8, second: u32, phone: u16) -> u64
+    ensures { λ r. ⌜ r ≡ ofAnswer (rankIn of (now (bytes .entry)) tag (key (callOf level second phone 0))) ⌝ }
+{
+    let c = Record {
+        level: level,
+        second: second,
+        phone: phone,
+        minutes: 0,
+    };
+    let a = reads::rank(of, bytes, tag, c);
+    of_answer(a)
+}
+
+// Counts the records of a tag's list before a primary part, in an image.
 #[no_mangle]
 pub extern "C" fn cix_rank_image(image: &[u8], tag: u32, level: u8, second: u32, phone: u16) -> u64
     ensures { λ r. ⌜ r ≡ ofAnswer (rankIn Of.Image (now (image .entry)) tag (key (callOf level second phone 0))) ⌝ }
 {
-    let c = Record {
-        level: level,
-        second: second,
-        phone: phone,
-        minutes: 0,
-    };
-    let a = reads::rank(Of::Image, image, tag, c);
-    of_answer(a)
+    rank_in(Of::Image, image, tag, level, second, phone)
 }
 
-// Counts the records of a tag's list in a workspace before a primary part.
+// Counts the records of a tag's list before a primary part, in a workspace.
 #[no_mangle]
 pub extern "C" fn cix_rank_space(space: &[u8], tag: u32, level: u8, second: u32, phone: u16) -> u64
     ensures { λ r. ⌜ r ≡ ofAnswer (rankIn Of.Space (now (space .entry)) tag (key (callOf level second phone 0))) ⌝ }
 {
-    let c = Record {
-        level: level,
-        second: second,
-        phone: phone,
-        minutes: 0,
-    };
-    let a = reads::rank(Of::Space, space, tag, c);
-    of_answer(a)
+    rank_in(Of::Space, space, tag, level, second, phone)
 }
 
 // Writes the calls that both lists have, of two tags in an image, to an output.
