@@ -13,7 +13,8 @@ use Rattle.wire.specs.RulesLaws.{by-refusal, first-refused, first-passed, passe
 use Rattle.records.specs.declared.Record.{Record}
 use Rattle.merges.specs.declared.Merge.{Merge}
 use Rattle.merges.specs.declared.Side.the-variants.{First, Shared, Second}
-use Rattle.records.specs.Records.{Fits, key, insert, remove, amend}
+use Rattle.records.specs.Records.{Fits, key, below, insert, remove, amend}
+use Rattle.records.specs.Order.{many-length}
 use Rattle.merges.specs.Merging.{keep, keeps, merge}
 use Rattle.home.specs.declared.Answer.{Answer}
 use Rattle.home.specs.declared.Answer.the-variants.{Count, Refused}
@@ -21,7 +22,7 @@ use Rattle.home.specs.Sound.{listOf}
 use Rattle.gates.specs.declared.Of.{Of}
 use Rattle.gates.specs.Gates.{gateRules, homeIn}
 use Rattle.gates.specs.GatesLaws.{home-fine}
-use Rattle.reads.specs.Reads.{listIn, countIn}
+use Rattle.reads.specs.Reads.{listIn, countIn, rankIn}
 use Rattle.reads.specs.Merges.{mergeIn}
 use Rattle.index.specs.Calls.{putCall, deleteCall, setCall, dropCall}
 use Rattle.demands.specs.Effects.{Effect, put-effect, delete-effect, set-effect, drop-effect}
@@ -61,6 +62,10 @@ low-first rs n f = by-refusal rs
 pub count-low : (of : Of) (bs : List ℕ) (t : ℕ) → Low (countIn of bs t)
 unfolding countIn
 count-low of bs t = low-first (gateRules of bs) (length (listIn of bs t)) (λ q. omega (arith, list-short (homeIn of bs) t (home-fine of bs q)))
+
+pub rank-low : (of : Of) (bs : List ℕ) (t k : ℕ) → Low (rankIn of bs t k)
+unfolding rankIn
+rank-low of bs t k = low-first (gateRules of bs) (below k (listIn of bs t)) (λ q. omega (arith, many-length (λ x. ltb (key x) k) (listIn of bs t), list-short (homeIn of bs) t (home-fine of bs q)))
 
 -- ---- merges
 

@@ -10,6 +10,7 @@ use Rattle.wire.specs.Cases.{by-lt}
 use Rattle.wire.specs.BytesLaws.{over-nil, over-append}
 use Rattle.records.specs.declared.Record.{Record}
 use Rattle.records.specs.Records.{key, tally, bytesOf, encode, recordAt, decode, rest}
+use Rattle.records.specs.Order.{tally-small}
 use Rattle.records.specs.Cells.{length-bytesOf, rest-more, rest-end, rest-all}
 use Rattle.merges.specs.declared.Side.{Side}
 use Rattle.merges.specs.declared.Side.the-variants.{First, Shared, Second}
@@ -83,11 +84,6 @@ length-keep : (b : Bool) (x : Record) (xs : List Record) → length (keep b x xs
 unfolding tally
 length-keep true x xs = omega arith
 length-keep false x xs = omega arith
-
-pub tally-small : (b : Bool) → tally b ≤ 1
-unfolding tally
-tally-small true = omega arith
-tally-small false = omega arith
 
 encode-keep : (l : List ℕ) (k : ℕ) (b : Bool) (x : Record) (xs : List Record)
     → over (over l (8 * k) (encode (keep b x []))) (8 * (k + tally b)) (encode xs) ≡ over l (8 * k) (encode (keep b x xs))

@@ -155,6 +155,16 @@ in-look low r (x ∷ xs) e (List·Memᴰ·tail m) =
 
 -- ---- rank
 
+pub tally-small : (b : Bool) → tally b ≤ 1
+unfolding tally
+tally-small true = omega arith
+tally-small false = omega arith
+
+pub many-length : (p : Record → Bool) (xs : List Record) → many p xs ≤ length xs
+unfolding many
+many-length p [] = omega arith
+many-length p (x ∷ xs) = omega (arith, tally-small (p x), many-length p xs)
+
 pub rank-length : (k : ℕ) (xs : List Record) → rank k xs ≤ length xs
 rank-length k [] = rw rank-nil (omega arith)
 rank-length k (x ∷ xs) = let a = rank-length k xs in by-lt (key x) k (λ h. rw (rank-past k x xs h) (omega arith)) (λ h. rw (rank-here k x xs h) (omega arith))

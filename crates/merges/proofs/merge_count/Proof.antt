@@ -3,7 +3,8 @@ use mathlib.Core.Path.{sym, _∙_}
 use Prim.Native.Nat.{_+_, _-_, _/_}
 use lib.ListN.{length}
 use borrow.Author.Tests.{ltb-true, ltb-false}
-use Rattle.merges.specs.LoopLaws.{Turn, Count, count-start, count-turn, count-end, merge-turn, tally-small}
+use Rattle.records.specs.Order.{tally-small}
+use Rattle.merges.specs.LoopLaws.{Turn, Count, count-start, count-turn, count-end, merge-turn}
 use borrow.Author.Needs.{needs}
 use Rattle.merges.proofs.merge_count.Statement.{statement}
 use Rattle.merges.proofs.merge_count.Tie as tie
