@@ -262,7 +262,9 @@ fn against_hand(repeats: usize) {
                 &mut || _ = black_box(hand::count_image(black_box(image), 7)),
             ],
         );
-        let middle = cix::records(cix::show_image(image, 7)).nth(cix::count_image(image, 7).unwrap() as usize / 2).unwrap();
+        let list: Vec<Record> = cix::records(cix::show_image(image, 7)).collect();
+        let middle = list[list.len() / 2];
+        assert_eq!(cix::rank_image(image, 7, middle).ok(), hand::rank_image(image, 7, bytes(middle)).ok());
         let rank = Race::run(
             repeats,
             vec![

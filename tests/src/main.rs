@@ -52,7 +52,7 @@ fn main() {
         let found = steps::every_cut(&mut tally);
         println!("the other step code: {} times the old index, {} times the new one", found.old, found.new);
         let found = ranks::every_cut(&mut tally);
-        println!("ranks: foretold through a commit, {} times by the old index, {} times by the new one", found.old, found.new);
+        println!("ranks through a commit: {} times the old index, {} times the new one", found.old, found.new);
         steps::cut_formats(&mut tally);
         steps::damage(&mut tally);
         steps::bounds(&mut tally);
