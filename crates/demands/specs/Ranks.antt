@@ -139,7 +139,7 @@ module _ (l : List ℕ) (t : ℕ) (small : t < 4294967296) (r : Record) (fits : 
       let x : List ℕ = final sound (commit made n v ∷ rs) l in
       let s : Starts sound l = starts sound l made plan in
       let f = index-switched-off l made plan n v recovers .atOnce (image-open x p .clear) in
-      let asked : home x ≡ home l → rankIn Space (home x) t (key r) ≡ rankIn Space (home l) t (key r) = λ e. ap (λ (y : List ℕ). rankIn Space y t (key r)) e in
+      let same : (y : List ℕ) → home x ≡ y → rankIn Space (home x) t (key r) ≡ rankIn Space y t (key r) = λ y e. ap (λ (z : List ℕ). rankIn Space z t (key r)) e in
       home-reads x (home x) p refl .rank t (key r)
-      ∙ ⊎-elim asked (λ e. ap (λ (y : List ℕ). rankIn Space y t (key r)) e ∙ put-foretold (home l) t small r fits) (one-found n v (length (changedPages l made)) (home l) made (home x) f)
+      ∙ ⊎-elim (same (home l)) (λ e. same made e ∙ put-foretold (home l) t small r fits) (one-found n v (length (changedPages l made)) (home l) made (home x) f)
       ∙ sym (home-reads l (home l) (image-opens l (s .head) (s .unmarked) (s .fine)) refl .rank t (key r))

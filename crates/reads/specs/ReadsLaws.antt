@@ -8,8 +8,7 @@ use lib.ListN.{length}
 use native.Mathlib.Omega.{arith}
 use Rattle.wire.specs.Rules.{refusal}
 use Rattle.wire.specs.RulesLaws.{first-refused, first-passed}
-use Rattle.records.specs.Records.{rising, rank, below, encode, decode}
-use Rattle.records.specs.Order.{rank-below}
+use Rattle.records.specs.Records.{rising, below, encode, decode}
 use Rattle.records.specs.Edits.{decode-encode}
 use Rattle.layout.specs.Capacities.{cells, classOf}
 use Rattle.layout.specs.CapacitiesLaws.{rising as rises}
@@ -81,11 +80,9 @@ module _ (of : Of) (bs : List ℕ) (t : ℕ) (passed : refusal (gateRules of bs)
   pub counted-is : (n : ℕ) → n ≡ length (listOf h t) → Count n ≡ countIn of bs t
   counted-is n e = ap Count (e ∙ ap (λ (x : List ℕ). length (listOf x t)) same) ∙ sym (count-open of bs t passed)
 
-  -- by a search in the list's bytes
-  pub ranked-is : (k n : ℕ) (xs : List ℕ) → xs ≡ encode (listOf h t) → rank k (decode xs) ≡ n → Count n ≡ rankIn of bs t k
+  pub ranked-is : (k n : ℕ) (xs : List ℕ) → xs ≡ encode (listOf h t) → n ≡ below k (decode xs) → Count n ≡ rankIn of bs t k
   ranked-is k n xs f e =
-      let fine : sound h ≡ true = ap sound same ∙ home-fine of bs passed in
-      ap Count (sym e ∙ rank-below k 0 (decode xs) (list-rises h t xs fine f) ∙ ap (below k) (list-reads h t xs fine f) ∙ ap (λ (x : List ℕ). below k (listOf x t)) same)
+      ap Count (e ∙ ap (below k) (list-reads h t xs (ap sound same ∙ home-fine of bs passed) f) ∙ ap (λ (x : List ℕ). below k (listOf x t)) same)
       ∙ sym (rank-open of bs t passed k)
 
   pub shown-is : (xs : List ℕ) (r q o : ℕ) → q ≡ o + homeFrom of bs → xs ≡ encode (listOf h t) → r ≡ q + offsetOf h t → (xs ≡ showIn of bs t) × (r ≡ o + showFrom of bs t)

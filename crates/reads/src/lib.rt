@@ -3,7 +3,6 @@ use gates::Access;
 use gates::Of;
 use home::Answer;
 use merges::Merge;
-use records::Rank;
 use records::Record;
 ghost use mathlib.Core.Path.{_≡_};
 ghost use Prim.Native.Nat.{_+_};
@@ -30,10 +29,7 @@ pub fn rank(of: Of, bytes: &[u8], tag: u32, r: Record) -> Answer
     match gates::gate(of, bytes) {
         Access::Open => {
             let list = home::lookup::list(gates::home(of, bytes), tag);
-            match records::search(list, records::key_of(r)) {
-                Rank::Found(i) => Answer::Count(i),
-                Rank::Absent(i) => Answer::Count(i),
-            }
+            Answer::Count(records::count_before(list, records::key_of(r)))
         }
         Access::Refused(n) => Answer::Refused(n),
     }

@@ -4,7 +4,7 @@ ghost use mathlib.Core.Bool.{true};
 ghost use Prim.Native.Nat.{_+_, _*_, _/_, _≤_, _<_};
 ghost use lib.ListN.{length, getD};
 ghost use Rattle.wire.specs.Bytes.{get32, over};
-ghost use Rattle.records.specs.Records.{key, recordAt, bytesOf, decode, rising as ordered, ranked, inserted, removed, amended};
+ghost use Rattle.records.specs.Records.{key, recordAt, bytesOf, decode, rising as ordered, ranked, below, inserted, removed, amended};
 
 // A call on record. Level, second and phone are its primary part.
 pub struct Record {
@@ -146,6 +146,17 @@ pub fn search(s: &[u8], key: u64) -> Rank
         Rank::Found(low)
     } else {
         Rank::Absent(low)
+    }
+}
+
+// Counts the records of a rising list before a key, which the search tells whether it is there or not.
+pub fn count_before(s: &[u8], key: u64) -> usize
+    requires { ⌜ ordered (decode (now s)) ≡ true ⌝ }
+    ensures { λ r. ⌜ r ≡ below key (decode (now (s .entry))) ⌝ }
+{
+    match search(s, key) {
+        Rank::Found(i) => i,
+        Rank::Absent(i) => i,
     }
 }
 

@@ -1,8 +1,7 @@
 use borrow.Author.Needs.{needs}
 use mathlib.Core.Path.{sym, ap, _∙_}
 use Prim.Native.Nat.{ℕ}
-use Rattle.records.specs.Records.{ranked, decode}
-use Rattle.records.specs.Order.{found-held, absent-held}
+use Rattle.records.specs.Records.{below, decode}
 use Rattle.home.specs.Sound.{sound}
 use Rattle.gates.specs.GatesLaws.{gate-open, gate-refused, home-fine}
 use Rattle.reads.specs.ReadsLaws.{list-rises, ranked-is, rank-refused}
@@ -24,44 +23,19 @@ list-requires c κs = ap sound (c .home .ensures .0) ∙ home-fine _ _ (gate-ope
 key-of-requires : tie.Need-key-of-requires
 key-of-requires c κs = search needs
 
-search-requires : tie.Need-search-requires
-search-requires c κs = list-rises _ _ _ (ap sound (c .before .before .home .ensures .0) ∙ home-fine _ _ (gate-open _ (sym (c .before .before .before .before .before .gate .ensures) ∙ c .before .before .before .enum-told .given .1))) (c .before .list .ensures .0)
-
-enum-known-i : tie.Need-enum-known-i
-enum-known-i c = search needs
-
-enum-known-i-2 : tie.Need-enum-known-i-2
-enum-known-i-2 c = search needs
+count-before-requires : tie.Need-count-before-requires
+count-before-requires c κs = list-rises _ _ _ (ap sound (c .before .before .home .ensures .0) ∙ home-fine _ _ (gate-open _ (sym (c .before .before .before .before .before .gate .ensures) ∙ c .before .before .before .enum-told .given .1))) (c .before .list .ensures .0)
 
 enum-known-n : tie.Need-enum-known-n
 enum-known-n c = search needs
 
 returns : tie.Need-returns
-returns c =
-    ranked-is _ _ _ (gate-open _ (sym (c .before .before .before .before .before .before .before .before .before .gate .ensures) ∙ c .before .before .before .before .before .before .before .enum-told .given .1)) _ (c .before .before .before .before .before .before .home .ensures .0) _ _ _ (c .before .before .before .before .before .list .ensures .0)
-    (found-held _ (c .before .i .given .0 .0) _ (sym (c .before .i .given .1) ∙ c .before .before .before .search .ensures ∙ ap (λ (k : ℕ). ranked k (decode (c .before .before .before .before .before .list .result .now))) (c .before .before .before .before .key-of .ensures)) .1)
+returns c = ranked-is _ _ _ (gate-open _ (sym (c .before .before .before .before .before .before .gate .ensures) ∙ c .before .before .before .before .enum-told .given .1)) _ (c .before .before .before .home .ensures .0) _ _ _ (c .before .before .list .ensures .0) (c .count-before .ensures ∙ ap (λ (k : ℕ). below k (decode (c .before .before .list .result .now))) (c .before .key-of .ensures))
 
 returns-2 : tie.Need-returns-2
-returns-2 c =
-    ranked-is _ _ _ (gate-open _ (sym (c .before .before .before .before .before .before .before .before .before .gate .ensures) ∙ c .before .before .before .before .before .before .before .enum-told .given .1)) _ (c .before .before .before .before .before .before .home .ensures .0) _ _ _ (c .before .before .before .before .before .list .ensures .0)
-    (absent-held _ (c .before .i2 .given .0 .0) _ (sym (c .before .i2 .given .1) ∙ c .before .before .before .search .ensures ∙ ap (λ (k : ℕ). ranked k (decode (c .before .before .before .before .before .list .result .now))) (c .before .before .before .before .key-of .ensures)) .1)
-
-returns-3 : tie.Need-returns-3
-returns-3 c = sym (rank-refused _ _ _ _ (gate-refused _ (c .before .n .given .0 .0) (sym (c .before .before .before .gate .ensures) ∙ c .before .n .given .1)) _)
+returns-2 c = sym (rank-refused _ _ _ _ (gate-refused _ (c .before .n .given .0 .0) (sym (c .before .before .before .gate .ensures) ∙ c .before .n .given .1)) _)
 
 pub rank-spec : {M : Type 1} → statement M
 rank-spec =
     tie.close
-    (tie.spec
-    gate-requires
-    enum-told
-    home-requires
-    list-requires
-    key-of-requires
-    search-requires
-    enum-known-i
-    enum-known-i-2
-    enum-known-n
-    returns
-    returns-2
-    returns-3)
+    (tie.spec gate-requires enum-told home-requires list-requires key-of-requires count-before-requires enum-known-n returns returns-2)
