@@ -33,6 +33,8 @@ use Rattle.gates.specs.Gates.{gateRules, homeIn}
 use Rattle.reads.specs.Reads.{countIn}
 use Rattle.index.specs.declared.Begun.{Begun}
 use Rattle.index.specs.declared.Begun.the-variants.{Done as BeginDone, Refused as BeginRefused}
+use Rattle.edits.specs.declared.Terminal.the-variants.{Desk}
+use Rattle.edits.specs.Edits.{limitOf, fullOf}
 use Rattle.index.specs.Calls.{beginCall, putCall, deleteCall, dropCall, formatRules, formatPlan}
 use Rattle.index.specs.FormatLaws.{format-coded}
 
@@ -117,7 +119,7 @@ seen a h w t l = recovered a (which h w (home l)) (countIn Image l t)
 -- the state after a call; `fresh` gives the image that a format leaves. Each commit is tried on the same image
 unfoldable pub next : (ℕ → List ℕ) → Call → State → State
 next fresh (starting L) s = let l : List ℕ = fresh L in record { image = l; space = left (beginCall l lent) lent }
-next fresh (putting t n) s = record { image = s .image; space = left (putCall (s .space) t (of n)) (s .space) }
+next fresh (putting t n) s = record { image = s .image; space = left (putCall Desk (s .space) t (of n)) (s .space) }
 next fresh (deleting t n) s = record { image = s .image; space = left (deleteCall (s .space) t (key (of n))) (s .space) }
 next fresh (dropping t) s = record { image = s .image; space = left (dropCall (s .space) t) (s .space) }
 next fresh comparing s = s
@@ -127,7 +129,7 @@ next fresh (recovering n t) s = s
 -- what a call gives, by the states before and after it
 unfoldable pub result : Call → State → State → Result
 result (starting L) s s' = began (answered BeginRefused (beginCall (s' .image) lent)) (laid (s' .space))
-result (putting t n) s s' = edited (answered Refused (putCall (s .space) t (of n))) (laid (s' .space))
+result (putting t n) s s' = edited (answered Refused (putCall Desk (s .space) t (of n))) (laid (s' .space))
 result (deleting t n) s s' = edited (answered Refused (deleteCall (s .space) t (key (of n)))) (laid (s' .space))
 result (dropping t) s s' = edited (answered Refused (dropCall (s .space) t)) (laid (s' .space))
 result comparing s s' = differ (map (λ (e : Entry). e .page) (changedPages (s .image) (s .space)))
@@ -219,7 +221,7 @@ formatted : (L : ℕ) → fresh L ≡ quick L
 formatted L = by-test (inRange L 2) (formats L) (refuses L)
 
 computed : follow quick expected nothing ≡ expected
-unfolding expected follow next result laid which mended seen quick used lent of putCall deleteCall dropCall countIn beginCall gateRules homeIn first letters home inRange headOk entry entries rising changes logged replay answer after headPage emptyImage zerosBut clearMark recoverStores logOk recoverRules recoverPlan logStores commitStores commitRules commitPlan apply run sized sound listOf valid decode zonesFrom encode spots settled put delete dropTag totalAfter change settle place takeOut rewritten hasTag find blocks classOf capacity cells key look insert remove risingFrom bytesOf recordAt records part over get16 get32 bytes16 bytes32 equal blank
+unfolding expected follow next result laid which mended seen quick used lent of putCall limitOf fullOf deleteCall dropCall countIn beginCall gateRules homeIn first letters home inRange headOk entry entries rising changes logged replay answer after headPage emptyImage zerosBut clearMark recoverStores logOk recoverRules recoverPlan logStores commitStores commitRules commitPlan apply run sized sound listOf valid decode zonesFrom encode spots settled put delete dropTag totalAfter change settle place takeOut rewritten hasTag find blocks classOf capacity cells key look insert remove risingFrom bytesOf recordAt records part over get16 get32 bytes16 bytes32 equal blank
 computed = refl
 
 pub cases : table ≡ expected

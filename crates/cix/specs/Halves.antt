@@ -24,6 +24,7 @@ use Rattle.gates.specs.Gates.{gateRules, homeIn}
 use Rattle.gates.specs.GatesLaws.{home-fine}
 use Rattle.reads.specs.Reads.{listIn, countIn, rankIn}
 use Rattle.reads.specs.Merges.{mergeIn}
+use Rattle.edits.specs.declared.Terminal.{Terminal}
 use Rattle.index.specs.Calls.{putCall, deleteCall, setCall, dropCall}
 use Rattle.demands.specs.Effects.{Effect, put-effect, delete-effect, set-effect, drop-effect}
 use Rattle.cix.specs.PlacesLaws.{list-short}
@@ -39,8 +40,8 @@ low-effect w w' t rs (Count n) d = omega (arith, d .counts, ap length (d .list),
 low-effect w w' t rs (Refused r) d = omega arith
 
 module _ (w : List ℕ) (t : ℕ) (small : t < 4294967296) where
-  pub put-low : (r : Record) → Fits r → Low (answered Refused (putCall w t r))
-  put-low r f = low-effect w (left (putCall w t r) w) t (insert r (listOf w t)) (answered Refused (putCall w t r)) (put-effect w t small r f)
+  pub put-low : (by : Terminal) (r : Record) → Fits r → Low (answered Refused (putCall by w t r))
+  put-low by r f = low-effect w (left (putCall by w t r) w) t (insert r (listOf w t)) (answered Refused (putCall by w t r)) (put-effect w t small by r f)
 
   pub delete-low : (k : ℕ) → Low (answered Refused (deleteCall w t k))
   delete-low k = low-effect w (left (deleteCall w t k) w) t (remove k (listOf w t)) (answered Refused (deleteCall w t k)) (delete-effect w t small k)

@@ -1,4 +1,5 @@
 // The index for C and Rust: its calls over numbers and byte slices, each with one number as its answer.
+use edits::Terminal;
 use gates::Access;
 use gates::Of;
 use home::AREA;
@@ -88,6 +89,29 @@ pub extern "C" fn cix_begin(image: &[u8], space: &mut [u8]) -> u64
     of_begun(b)
 }
 
+// Puts a record to a tag's list, by either terminal.
+fn put_by(
+    space: &mut [u8],
+    by: Terminal,
+    tag: u32,
+    level: u8,
+    second: u32,
+    phone: u16,
+    minutes: u8,
+) -> u64
+    ensures { λ r. ⌜ r ≡ ofAnswer (answered Answer.Refused (putCall by (now (space .entry)) tag (callOf level second phone minutes))) ⌝ }
+    ensures { λ _. ⌜ now (space .exit) ≡ left (putCall by (now (space .entry)) tag (callOf level second phone minutes)) (now (space .entry)) ⌝ }
+{
+    let c = Record {
+        level: level,
+        second: second,
+        phone: phone,
+        minutes: minutes,
+    };
+    let a = index::put_by(space, by, tag, c);
+    of_answer(a)
+}
+
 // Puts a record to a tag's list.
 #[no_mangle]
 pub extern "C" fn cix_put(
@@ -98,17 +122,26 @@ pub extern "C" fn cix_put(
     phone: u16,
     minutes: u8,
 ) -> u64
-    ensures { λ r. ⌜ r ≡ ofAnswer (answered Answer.Refused (putCall (now (space .entry)) tag (callOf level second phone minutes))) ⌝ }
-    ensures { λ _. ⌜ now (space .exit) ≡ left (putCall (now (space .entry)) tag (callOf level second phone minutes)) (now (space .entry)) ⌝ }
+    ensures { λ r. ⌜ r ≡ ofAnswer (answered Answer.Refused (putCall Terminal.Desk (now (space .entry)) tag (callOf level second phone minutes))) ⌝ }
+    ensures { λ _. ⌜ now (space .exit) ≡ left (putCall Terminal.Desk (now (space .entry)) tag (callOf level second phone minutes)) (now (space .entry)) ⌝ }
 {
-    let c = Record {
-        level: level,
-        second: second,
-        phone: phone,
-        minutes: minutes,
-    };
-    let a = index::put(space, tag, c);
-    of_answer(a)
+    put_by(space, Terminal::Desk, tag, level, second, phone, minutes)
+}
+
+// Puts a record to a tag's list from the pit.
+#[no_mangle]
+pub extern "C" fn cix_put_pit(
+    space: &mut [u8],
+    tag: u32,
+    level: u8,
+    second: u32,
+    phone: u16,
+    minutes: u8,
+) -> u64
+    ensures { λ r. ⌜ r ≡ ofAnswer (answered Answer.Refused (putCall Terminal.Pit (now (space .entry)) tag (callOf level second phone minutes))) ⌝ }
+    ensures { λ _. ⌜ now (space .exit) ≡ left (putCall Terminal.Pit (now (space .entry)) tag (callOf level second phone minutes)) (now (space .entry)) ⌝ }
+{
+    put_by(space, Terminal::Pit, tag, level, second, phone, minutes)
 }
 
 // Deletes a record from a tag's list.

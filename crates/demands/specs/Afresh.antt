@@ -32,7 +32,9 @@ use Rattle.home.specs.Sound.{sound, pagesOf, listOf}
 use Rattle.home.specs.declared.Answer.{Answer}
 use Rattle.home.specs.declared.Answer.the-variants.{Count, Refused}
 use Rattle.home.specs.SoundLaws.{sound-valid}
-use Rattle.edits.specs.Edits.{putIn}
+use Rattle.edits.specs.declared.Terminal.{Terminal}
+use Rattle.edits.specs.Edits.{limitOf, fullOf, putIn}
+use Rattle.edits.specs.EditsLaws.{limit-low}
 use Rattle.moves.specs.Stored.{settled}
 use Rattle.gates.specs.declared.Of.the-variants.{Space}
 use Rattle.gates.specs.Gates.{gateRules}
@@ -53,43 +55,43 @@ abbrev pub laidAfresh : List ℕ → ℕ → Record → List Zone
 laidAfresh h t r = afresh (cells (stepOf h)) 0 0 (joined (classWith h t r) (blockWith h t r) (justBefore (cells (stepOf h)) t (decode h)))
 
 -- a put to a sound home that is done, though its list does not stay in its block and "placing finds no room"
-pub record Afresh (h : List ℕ) (t : ℕ) (r : Record) : Type 0 where
+pub record Afresh (by : Terminal) (h : List ℕ) (t : ℕ) (r : Record) : Type 0 where
   pub tag : t < 4294967296
   pub fits : Fits r
   pub count : ℕ
-  pub done : answered Refused (putCall h t r) ≡ Count count
+  pub done : answered Refused (putCall by h t r) ≡ Count count
   pub leaves : hasTag t (blocks (decode h)) ≡ true → classOf (stepOf h) (length (listOf h t)) ≢ classWith h t r
   pub none : place (cells (stepOf h)) (8 * pagesOf h) 0 0 (classWith h t r) (blockWith h t r) (justBefore (cells (stepOf h)) t (decode h)) ≡ none
 
 -- ---- what it leaves
 
 -- a put that is done has changed the list
-record Put (h : List ℕ) (t : ℕ) (r : Record) : Type 0 where
+record Put (by : Terminal) (h : List ℕ) (t : ℕ) (r : Record) : Type 0 where
   layout : List Zone
   changes : change (stepOf h) (8 * pagesOf h) t (insert r (listOf h t)) (decode h) ≡ some layout
-  bytes : left (putCall h t r) h ≡ encode (stepOf h) (pagesOf h) layout
+  bytes : left (putCall by h t r) h ≡ encode (stepOf h) (pagesOf h) layout
 
-put-is : (h : List ℕ) (t : ℕ) (r : Record) → Afresh h t r → Put h t r
+put-is : (by : Terminal) (h : List ℕ) (t : ℕ) (r : Record) → Afresh by h t r → Put by h t r
 unfolding putCall put settled listOf
-put-is h t r k =
-    let c : Ruled Answer = putIn h t r in
+put-is by h t r k =
+    let c : Ruled Answer = putIn by h t r in
     let gs : List Rule = gateRules Space h in
     let q = unrefused Refused (gs ++ c .rules) (c .answer) (Count (k .count)) (λ n e. let z : _≡_ {A = ℕ} 0 1 = cc in omega arith) (k .done) in
     let p = passes-both gs (c .rules) q in
     let v = sound-valid h (space-open h (p .0)) in
-    go (change (stepOf h) (8 * pagesOf h) t (insert r (listOf h t)) (decode h)) refl (put-fine (cells (stepOf h)) (classOf (stepOf h)) (rises (stepOf h)) (8 * pagesOf h) t (decode h) v (k .tag) r (k .fits) (p .1) .room) (first-passed (λ n. h) (gs ++ c .rules) (c .bytes) q)
+    go (change (stepOf h) (8 * pagesOf h) t (insert r (listOf h t)) (decode h)) refl (put-fine (cells (stepOf h)) (classOf (stepOf h)) (rises (stepOf h)) (8 * pagesOf h) t (decode h) v (k .tag) (limitOf by) (fullOf by) (limit-low by) r (k .fits) (p .1) .room) (first-passed (λ n. h) (gs ++ c .rules) (c .bytes) q)
   where
-    go : (o : Option (List Zone)) → change (stepOf h) (8 * pagesOf h) t (insert r (listOf h t)) (decode h) ≡ o → isSome o ≡ true → left (putCall h t r) h ≡ settled (stepOf h) (pagesOf h) h (change (stepOf h) (8 * pagesOf h) t (insert r (listOf h t)) (decode h)) → Put h t r
+    go : (o : Option (List Zone)) → change (stepOf h) (8 * pagesOf h) t (insert r (listOf h t)) (decode h) ≡ o → isSome o ≡ true → left (putCall by h t r) h ≡ settled (stepOf h) (pagesOf h) h (change (stepOf h) (8 * pagesOf h) t (insert r (listOf h t)) (decode h)) → Put by h t r
     go none e i b = never i
     go (some zs) e i b = record { layout = zs; changes = e; bytes = b ∙ ap (settled (stepOf h) (pagesOf h) h) e }
 
-module _ (h : List ℕ) (t : ℕ) (r : Record) (k : Afresh h t r) where
+module _ (by : Terminal) (h : List ℕ) (t : ℕ) (r : Record) (k : Afresh by h t r) where
   -- the layout, in which there is no gap, and each class's blocks lie in the order from just before the placing, the new one behind them
-  pub put-afresh : (left (putCall h t r) h ≡ encode (stepOf h) (pagesOf h) (laidAfresh h t r)) × Gapless (cells (stepOf h)) 0 0 (laidAfresh h t r) × (byClass (laidAfresh h t r) ≡ behind (classWith h t r) (blockWith h t r) (byClass (justBefore (cells (stepOf h)) t (decode h))))
+  pub put-afresh : (left (putCall by h t r) h ≡ encode (stepOf h) (pagesOf h) (laidAfresh h t r)) × Gapless (cells (stepOf h)) 0 0 (laidAfresh h t r) × (byClass (laidAfresh h t r) ≡ behind (classWith h t r) (blockWith h t r) (byClass (justBefore (cells (stepOf h)) t (decode h))))
   unfolding listOf
   put-afresh =
       let rs : List Record = insert r (find t (blocks (decode h))) in
-      let p : Put h t r = put-is h t r k in
+      let p : Put by h t r = put-is by h t r k in
       let s : settle (cells (stepOf h)) (8 * pagesOf h) (classWith h t r) (blockWith h t r) (justBefore (cells (stepOf h)) t (decode h)) ≡ some (p .layout) =
       sym (change-settles (cells (stepOf h)) (classOf (stepOf h)) (8 * pagesOf h) t rs (decode h) (omega (arith, length-insert r (find t (blocks (decode h))))) (k .leaves)) ∙ p .changes in
       let a = settle-afresh (cells (stepOf h)) (classOf (stepOf h)) (cells-mono (stepOf h)) (cells-pos (stepOf h)) (8 * pagesOf h) (classWith h t r) (blockWith h t r) (justBefore (cells (stepOf h)) t (decode h)) (p .layout) (k .none) s in
@@ -97,22 +99,22 @@ module _ (h : List ℕ) (t : ℕ) (r : Record) (k : Afresh h t r) where
 
 -- ---- a switch-off during its commit
 
-module _ (l : List ℕ) (t : ℕ) (r : Record) (k : Afresh (home l) t r) {ss : List Store} (plan : commitPlan sound l (left (putCall (home l) t r) (home l)) ≡ store ss) (n v : ℕ) {rs : List Call} (recovers : All IsRecover rs) where
+module _ (by : Terminal) (l : List ℕ) (t : ℕ) (r : Record) (k : Afresh by (home l) t r) {ss : List Store} (plan : commitPlan sound l (left (putCall by (home l) t r) (home l)) ≡ store ss) (n v : ℕ) {rs : List Call} (recovers : All IsRecover rs) where
   abbrev w : List ℕ
-  w = left (putCall (home l) t r) (home l)
+  w = left (putCall by (home l) t r) (home l)
 
   abbrev x : List ℕ
   x = final sound (commit w n v ∷ rs) l
 
   -- "a switch-off during such a commit leaves the index from before it or the one laid out afresh"
   pub afresh-switched-off : Found n v (length (changedPages l w)) (home l) (encode (stepOf (home l)) (pagesOf (home l)) (laidAfresh (home l) t r)) x
-  afresh-switched-off = subst (λ (y : List ℕ). Found n v (length (changedPages l w)) (home l) y x) (put-afresh (home l) t r k .0) (index-switched-off l w plan n v recovers)
+  afresh-switched-off = subst (λ (y : List ℕ). Found n v (length (changedPages l w)) (home l) y x) (put-afresh by (home l) t r k .0) (index-switched-off l w plan n v recovers)
 
   -- "Lists of other tags still read the same", in whichever of the two is found
   pub afresh-others : (y : List ℕ) → Finds n v (length (changedPages l w)) (home l) (encode (stepOf (home l)) (pagesOf (home l)) (laidAfresh (home l) t r)) y → (u : ℕ) → u ≢ t → listOf y u ≡ listOf (home l) u
   afresh-others y f u d =
-      let new-is : encode (stepOf (home l)) (pagesOf (home l)) (laidAfresh (home l) t r) ≡ w = sym (put-afresh (home l) t r k .0) in
-      let others : listOf w u ≡ listOf (home l) u = (subst (Effect (home l) w t (insert r (listOf (home l) t))) (k .done) (put-effect (home l) t (k .tag) r (k .fits))) .others u d in
+      let new-is : encode (stepOf (home l)) (pagesOf (home l)) (laidAfresh (home l) t r) ≡ w = sym (put-afresh by (home l) t r k .0) in
+      let others : listOf w u ≡ listOf (home l) u = (subst (Effect (home l) w t (insert r (listOf (home l) t))) (k .done) (put-effect (home l) t (k .tag) by r (k .fits))) .others u d in
       let old : y ≡ home l → listOf y u ≡ listOf (home l) u = λ q. ap (λ (z : List ℕ). listOf z u) q in
       let new : y ≡ encode (stepOf (home l)) (pagesOf (home l)) (laidAfresh (home l) t r) → listOf y u ≡ listOf (home l) u = λ q. ap (λ (z : List ℕ). listOf z u) (q ∙ new-is) ∙ others in
       ⊎-elim old new (one-found n v (length (changedPages l w)) (home l) (encode (stepOf (home l)) (pagesOf (home l)) (laidAfresh (home l) t r)) y f)

@@ -15,11 +15,11 @@ use Rattle.home.specs.declared.Answer.{Answer}
 use Rattle.home.specs.declared.Answer.the-variants.{Count, Refused}
 use Rattle.layout.specs.Capacities.{cells, classOf}
 use Rattle.layout.specs.Zones.{Zone}
-use Rattle.home.specs.Layout.{change, put}
+use Rattle.home.specs.Layout.{change}
 use Rattle.layout.specs.Cases.{Holds}
 use Rattle.wire.specs.Bytes.{isSome}
 use Rattle.layout.specs.ChangeLaws.{Changed}
-use Rattle.layout.specs.Edits.{Edit, put as putBy, delete, setMinutes, dropTag}
+use Rattle.layout.specs.Edits.{Edit, put, delete, setMinutes, dropTag}
 use Rattle.layout.specs.CapacitiesLaws.{rising as rises}
 use Rattle.layout.specs.EditsLaws.{Fine, changed, put-fine, delete-fine, set-fine, drop-fine}
 use Rattle.home.specs.Bytes.{stepOf, decode}
@@ -27,7 +27,9 @@ use Rattle.home.specs.Sound.{sound, pagesOf, listOf}
 use Rattle.home.specs.SoundLaws.{sound-code, sound-encode, listOf-encode, sound-some, sound-small, sound-long, sound-valid}
 use Rattle.home.specs.EncodeLaws.{step-loose, length-loose, valid-loose}
 use Rattle.moves.specs.Stored.{settled}
-use Rattle.edits.specs.Edits.{edited}
+use Rattle.edits.specs.declared.Terminal.{Terminal}
+use Rattle.edits.specs.Edits.{edited, limitOf, fullOf, putOf}
+use Rattle.edits.specs.EditsLaws.{limit-low}
 use Rattle.gates.specs.declared.Of.the-variants.{Space}
 use Rattle.gates.specs.Gates.{gateRules}
 use Rattle.gates.specs.GatesLaws.{space-open}
@@ -82,9 +84,9 @@ module _ (w : List ℕ) (t : ℕ) (small : t < 4294967296) where
       rs : List Rule
       rs = gateRules Space w ++ e .rules
 
-  pub put-effect : (r : Record) → Fits r → Effect w (left (putCall w t r) w) t (insert r (listOf w t)) (answered Refused (putCall w t r))
-  unfolding putCall putBy listOf
-  put-effect r f = effect (put (stepOf w) (8 * pagesOf w) t r (decode w)) (λ s q. put-fine (cells (stepOf w)) (classOf (stepOf w)) (rises (stepOf w)) (8 * pagesOf w) t (decode w) (sound-valid w s) small r f q)
+  pub put-effect : (by : Terminal) (r : Record) → Fits r → Effect w (left (putCall by w t r) w) t (insert r (listOf w t)) (answered Refused (putCall by w t r))
+  unfolding putCall put listOf
+  put-effect by r f = effect (putOf by w t r) (λ s q. put-fine (cells (stepOf w)) (classOf (stepOf w)) (rises (stepOf w)) (8 * pagesOf w) t (decode w) (sound-valid w s) small (limitOf by) (fullOf by) (limit-low by) r f q)
 
   pub delete-effect : (k : ℕ) → Effect w (left (deleteCall w t k) w) t (remove k (listOf w t)) (answered Refused (deleteCall w t k))
   unfolding deleteCall delete listOf

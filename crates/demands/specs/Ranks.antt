@@ -31,6 +31,7 @@ use Rattle.gates.specs.Gates.{gateRules, homeIn}
 use Rattle.gates.specs.GatesLaws.{home-fine, image-open}
 use Rattle.reads.specs.Reads.{listIn, rankIn}
 use Rattle.reads.specs.ReadsLaws.{sound-listed, rank-open}
+use Rattle.edits.specs.declared.Terminal.{Terminal}
 use Rattle.index.specs.Calls.{putCall}
 use Rattle.demands.specs.Claim.{index-switched-off}
 use Rattle.demands.specs.Effects.{Effect, put-effect}
@@ -104,24 +105,24 @@ module _ (w w' : List ℕ) (t : ℕ) (r : Record) where
         moves = λ k j g. done-rank n k e ∙ ap (λ (m : ℕ). Count (m + tally (ltb (key r) k))) (was k j g);
       }
 
--- ---- put
+-- ---- put, by either terminal
 
-module _ (w : List ℕ) (t : ℕ) (small : t < 4294967296) (r : Record) (fits : Fits r) where
+module _ (by : Terminal) (w : List ℕ) (t : ℕ) (small : t < 4294967296) (r : Record) (fits : Fits r) where
   abbrev w' : List ℕ
-  w' = left (putCall w t r) w
+  w' = left (putCall by w t r) w
 
-  effect : Effect w w' t (insert r (listOf w t)) (answered Refused (putCall w t r))
-  effect = put-effect w t small r fits
+  effect : Effect w w' t (insert r (listOf w t)) (answered Refused (putCall by w t r))
+  effect = put-effect w t small by r fits
 
   -- "Putting a record and then counting must give the number foretold": also where the put is refused
   pub put-foretold : rankIn Space w' t (key r) ≡ rankIn Space w t (key r)
-  put-foretold = puts-foretold w w' t r (answered Refused (putCall w t r)) effect
+  put-foretold = puts-foretold w w' t r (answered Refused (putCall by w t r)) effect
 
-  pub put-stands : (n i : ℕ) → answered Refused (putCall w t r) ≡ Count n → rankIn Space w t (key r) ≡ Count i → Stands w w' t r n i
+  pub put-stands : (n i : ℕ) → answered Refused (putCall by w t r) ≡ Count n → rankIn Space w t (key r) ≡ Count i → Stands w w' t r n i
   put-stands n i d = puts-stands w w' t r n i (subst (Effect w w' t (insert r (listOf w t))) d effect)
 
   pub put-others : (u k : ℕ) → u ≢ t → rankIn Space w' u k ≡ rankIn Space w u k
-  put-others = others-ranked w w' t (insert r (listOf w t)) (answered Refused (putCall w t r)) effect
+  put-others = others-ranked w w' t (insert r (listOf w t)) (answered Refused (putCall by w t r)) effect
 
   -- and once it is committed
   pub foretold-committed : (l : List ℕ) (n m : ℕ) → answer (commitPlan sound l w') n ≡ Committed m → rankIn Image (after (commitPlan sound l w') n l) t (key r) ≡ rankIn Space w t (key r)
@@ -129,9 +130,9 @@ module _ (w : List ℕ) (t : ℕ) (small : t < 4294967296) (r : Record) (fits : 
 
 -- Asked of an image, then put in what was begun from it and committed: wherever the commit and any recoveries are cut and caught,
 -- the image gives the number foretold as soon as it gives one.
-module _ (l : List ℕ) (t : ℕ) (small : t < 4294967296) (r : Record) (fits : Fits r) where
+module _ (by : Terminal) (l : List ℕ) (t : ℕ) (small : t < 4294967296) (r : Record) (fits : Fits r) where
   abbrev made : List ℕ
-  made = left (putCall (home l) t r) (home l)
+  made = left (putCall by (home l) t r) (home l)
 
   pub foretold-switched-off : {ss : List Store} → commitPlan sound l made ≡ store ss → (n v : ℕ) {rs : List Call} → All IsRecover rs
       → refusal (gateRules Image (final sound (commit made n v ∷ rs) l)) ≡ none → rankIn Image (final sound (commit made n v ∷ rs) l) t (key r) ≡ rankIn Image l t (key r)
@@ -141,5 +142,5 @@ module _ (l : List ℕ) (t : ℕ) (small : t < 4294967296) (r : Record) (fits : 
       let f = index-switched-off l made plan n v recovers .atOnce (image-open x p .clear) in
       let same : (y : List ℕ) → home x ≡ y → rankIn Space (home x) t (key r) ≡ rankIn Space y t (key r) = λ y e. ap (λ (z : List ℕ). rankIn Space z t (key r)) e in
       home-reads x (home x) p refl .rank t (key r)
-      ∙ ⊎-elim (same (home l)) (λ e. same made e ∙ put-foretold (home l) t small r fits) (one-found n v (length (changedPages l made)) (home l) made (home x) f)
+      ∙ ⊎-elim (same (home l)) (λ e. same made e ∙ put-foretold by (home l) t small r fits) (one-found n v (length (changedPages l made)) (home l) made (home x) f)
       ∙ sym (home-reads l (home l) (image-opens l (s .head) (s .unmarked) (s .fine)) refl .rank t (key r))

@@ -16,6 +16,7 @@ use Rattle.gates.specs.declared.Of.{Of}
 use Rattle.gates.specs.Gates.{gateRules}
 use Rattle.reads.specs.Reads.{countIn, rankIn}
 use Rattle.reads.specs.Merges.{mergeIn}
+use Rattle.edits.specs.declared.Terminal.{Terminal}
 use Rattle.index.specs.declared.Begun.{Begun}
 use Rattle.index.specs.declared.Begun.the-variants.{Done as Copied, Refused as NotBegun}
 use Rattle.index.specs.Calls.{beginCall, putCall, deleteCall, setCall, dropCall, formatRules, formatPlan}
@@ -23,7 +24,7 @@ use Rattle.index.specs.Calls.{beginCall, putCall, deleteCall, setCall, dropCall
 -- (a commit by the test of home and workspace that it makes: the index's, or the log's own, which accepts all)
 pub data Call : Type 0 where
   begin : List ℕ → List ℕ → Call
-  put : List ℕ → ℕ → Record → Call
+  put : Terminal → List ℕ → ℕ → Record → Call
   delete : List ℕ → ℕ → ℕ → Call
   setMinutes : List ℕ → ℕ → ℕ → ℕ → Call
   dropTag : List ℕ → ℕ → Call
@@ -38,7 +39,7 @@ pub data Call : Type 0 where
 unfoldable pub rulesOf : Call → List Rule
 unfolding beginCall putCall deleteCall setCall dropCall mergeIn
 rulesOf (begin l w) = beginCall l w .rules
-rulesOf (put w t r) = putCall w t r .rules
+rulesOf (put by w t r) = putCall by w t r .rules
 rulesOf (delete w t k) = deleteCall w t k .rules
 rulesOf (setMinutes w t k m) = setCall w t k m .rules
 rulesOf (dropTag w t) = dropCall w t .rules
@@ -65,7 +66,7 @@ ofOutcome (NotStored r) = some r
 
 unfoldable pub refusedWith : Call → Option ℕ
 refusedWith (begin l w) = ofBegun (answered NotBegun (beginCall l w))
-refusedWith (put w t r) = ofAnswer (answered Refused (putCall w t r))
+refusedWith (put by w t r) = ofAnswer (answered Refused (putCall by w t r))
 refusedWith (delete w t k) = ofAnswer (answered Refused (deleteCall w t k))
 refusedWith (setMinutes w t k m) = ofAnswer (answered Refused (setCall w t k m))
 refusedWith (dropTag w t) = ofAnswer (answered Refused (dropCall w t))
@@ -79,7 +80,7 @@ refusedWith (format l L R step n) = ofOutcome (answer (formatPlan l L R step) n)
 -- the bytes lent to write
 unfoldable pub lent : Call → List ℕ
 lent (begin l w) = w
-lent (put w t r) = w
+lent (put by w t r) = w
 lent (delete w t k) = w
 lent (setMinutes w t k m) = w
 lent (dropTag w t) = w
@@ -92,7 +93,7 @@ lent (format l L R step n) = l
 
 unfoldable pub givenBack : Call → List ℕ
 givenBack (begin l w) = left (beginCall l w) w
-givenBack (put w t r) = left (putCall w t r) w
+givenBack (put by w t r) = left (putCall by w t r) w
 givenBack (delete w t k) = left (deleteCall w t k) w
 givenBack (setMinutes w t k m) = left (setCall w t k m) w
 givenBack (dropTag w t) = left (dropCall w t) w

@@ -18,6 +18,8 @@ use Rattle.gates.specs.declared.Of.the-variants.{Image, Space}
 use Rattle.gates.specs.Gates.{gateRules}
 use Rattle.reads.specs.Reads.{countIn, rankIn}
 use Rattle.reads.specs.Merges.{mergeIn}
+use Rattle.edits.specs.declared.Terminal.the-variants.{Desk, Pit}
+use Rattle.edits.specs.Edits.{fullOf}
 use Rattle.index.specs.declared.Begun.the-variants.{Refused as NotBegun}
 use Rattle.index.specs.Calls.{beginCall, putCall, deleteCall, setCall, dropCall, formatRules, formatPlan}
 use Rattle.demands.specs.Refusals.{Call, begin, put, delete, setMinutes, dropTag, count, rank, merge, commit, recover, format, rulesOf, ofAnswer, ofBegun, ofOutcome, refusedWith, lent, givenBack}
@@ -25,9 +27,14 @@ use Rattle.demands.specs.Refusals.{Call, begin, put, delete, setMinutes,
 -- ---- which numbers each call can be refused with, in which order
 
 module _ (w : List ℕ) (t k m : ℕ) (r : Record) where
-  put-numbers : numbers (rulesOf (put w t r)) ≡ 6 ∷ 7 ∷ 8 ∷ 10 ∷ 11 ∷ 12 ∷ []
-  unfolding rulesOf putCall gateRules putEdit numbers
+  put-numbers : numbers (rulesOf (put Desk w t r)) ≡ 6 ∷ 7 ∷ 8 ∷ 10 ∷ 11 ∷ 12 ∷ []
+  unfolding rulesOf putCall gateRules putEdit fullOf numbers
   put-numbers = refl
+
+  -- "after 8 and before 10", which no pit put meets
+  pit-numbers : numbers (rulesOf (put Pit w t r)) ≡ 6 ∷ 7 ∷ 8 ∷ 17 ∷ 11 ∷ 12 ∷ []
+  unfolding rulesOf putCall gateRules putEdit fullOf numbers
+  pit-numbers = refl
 
   delete-numbers : numbers (rulesOf (delete w t k)) ≡ 6 ∷ 7 ∷ 9 ∷ []
   unfolding rulesOf deleteCall gateRules deleteEdit numbers
@@ -90,7 +97,7 @@ planned rs ss n = exactly (λ (p : Plan). ofOutcome (answer p n)) refuse rs (sto
 pub refused-exactly : (c : Call) → refusedWith c ≡ refusal (rulesOf c)
 unfolding refusedWith rulesOf ofAnswer ofBegun beginCall putCall deleteCall setCall dropCall mergeIn countIn rankIn commitPlan recoverPlan formatPlan
 refused-exactly (begin l w) = exactly ofBegun NotBegun _ _ (λ n. refl) refl
-refused-exactly (put w t r) = exactly ofAnswer Refused _ _ (λ n. refl) refl
+refused-exactly (put by w t r) = exactly ofAnswer Refused _ _ (λ n. refl) refl
 refused-exactly (delete w t k) = exactly ofAnswer Refused _ _ (λ n. refl) refl
 refused-exactly (setMinutes w t k m) = exactly ofAnswer Refused _ _ (λ n. refl) refl
 refused-exactly (dropTag w t) = exactly ofAnswer Refused _ _ (λ n. refl) refl
@@ -113,7 +120,7 @@ unstored rs ss n r l e = ap (λ (p : Plan). after p n l) (first-refused refuse r
 unchanged : (c : Call) (n : ℕ) → refusal (rulesOf c) ≡ some n → givenBack c ≡ lent c
 unfolding givenBack lent rulesOf beginCall putCall deleteCall setCall dropCall mergeIn commitPlan recoverPlan formatPlan
 unchanged (begin l w) n e = stays (beginCall l w) w n e
-unchanged (put w t r) n e = stays (putCall w t r) w n e
+unchanged (put by w t r) n e = stays (putCall by w t r) w n e
 unchanged (delete w t k) n e = stays (deleteCall w t k) w n e
 unchanged (setMinutes w t k m) n e = stays (setCall w t k m) w n e
 unchanged (dropTag w t) n e = stays (dropCall w t) w n e

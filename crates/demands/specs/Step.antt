@@ -17,6 +17,7 @@ use Rattle.home.specs.declared.Answer.the-variants.{Count, Refused}
 use Rattle.home.specs.Bytes.{stepOf}
 use Rattle.home.specs.Sound.{sound}
 use Rattle.home.specs.SoundLaws.{sound-code}
+use Rattle.edits.specs.declared.Terminal.{Terminal}
 use Rattle.index.specs.Calls.{beginCall, putCall, deleteCall, setCall, dropCall}
 use Rattle.demands.specs.Effects.{Effect, put-effect, delete-effect, set-effect, drop-effect}
 
@@ -35,8 +36,8 @@ kept w w' t rs (Count n) e = e .step
 kept w w' t rs (Refused n) e = ap stepOf e
 
 module _ (w : List ℕ) (t : ℕ) (small : t < 4294967296) where
-  pub put-step : (r : Record) → Fits r → stepOf (left (putCall w t r) w) ≡ stepOf w
-  put-step r f = kept w _ t _ (answered Refused (putCall w t r)) (put-effect w t small r f)
+  pub put-step : (by : Terminal) (r : Record) → Fits r → stepOf (left (putCall by w t r) w) ≡ stepOf w
+  put-step by r f = kept w _ t _ (answered Refused (putCall by w t r)) (put-effect w t small by r f)
 
   pub delete-step : (k : ℕ) → stepOf (left (deleteCall w t k) w) ≡ stepOf w
   delete-step k = kept w _ t _ (answered Refused (deleteCall w t k)) (delete-effect w t small k)

@@ -15,14 +15,28 @@ use Rattle.home.specs.Layout.{put}
 use Rattle.home.specs.Bytes.{stepOf, decode}
 use Rattle.home.specs.Sound.{pagesOf}
 use Rattle.lists.specs.Listed.{changed}
+use Rattle.edits.specs.declared.Terminal.{Terminal}
+use Rattle.edits.specs.declared.Terminal.the-variants.{Desk, Pit}
 
 -- an edit of tag t in home's bytes
 abbrev pub edited : List ℕ → ℕ → Edit → Ruled Answer
 edited h t e = record { rules = e .rules; answer = Count (length (e .list)); bytes = changed h t (e .list) }
 
+-- "10: put to a list of 989", "17 a pit put to a list of 64 or more": how many records close a list to a terminal, and the refusal then
+unfoldable pub limitOf : Terminal → ℕ
+limitOf Desk = 989
+limitOf Pit = 64
+
+unfoldable pub fullOf : Terminal → ℕ
+fullOf Desk = 10
+fullOf Pit = 17
+
 -- each on the layout in home's bytes
-abbrev pub putIn : List ℕ → ℕ → Record → Ruled Answer
-putIn h t r = edited h t (put (stepOf h) (8 * pagesOf h) t r (decode h))
+abbrev pub putOf : Terminal → List ℕ → ℕ → Record → Edit
+putOf by h t r = put (stepOf h) (8 * pagesOf h) (limitOf by) (fullOf by) t r (decode h)
+
+abbrev pub putIn : Terminal → List ℕ → ℕ → Record → Ruled Answer
+putIn by h t r = edited h t (putOf by h t r)
 
 abbrev pub deleteIn : List ℕ → ℕ → ℕ → Ruled Answer
 deleteIn h t k = edited h t (delete t k (decode h))

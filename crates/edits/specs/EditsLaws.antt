@@ -46,11 +46,24 @@ use Rattle.lists.specs.Lists.{setHere}
 use Rattle.lists.specs.ListedLaws.{listed-has, listed-lying, listed-many}
 use Rattle.lists.specs.RecordLaws.{without-is, left-many, new-many, new-proper, set-changed}
 use Rattle.lists.specs.Listed.{changed, without, Listed, Missing, Ranked}
-use Rattle.edits.specs.Edits.{edited, putIn, deleteIn, setIn, dropIn, fitsAfter}
+use Rattle.edits.specs.declared.Terminal.{Terminal}
+use Rattle.edits.specs.declared.Terminal.the-variants.{Desk, Pit}
+use Rattle.edits.specs.Edits.{edited, limitOf, fullOf, putOf, putIn, deleteIn, setIn, dropIn, fitsAfter}
 
 rising-one : (r : Record) → rising (r ∷ []) ≡ true
 unfolding risingFrom
 rising-one r = rw (le-leb 0 (key r) (omega arith))
+
+-- no list is closed to a terminal while it is empty, and each is at 989 records
+pub limit-some : (by : Terminal) → 0 < limitOf by
+unfolding limitOf
+limit-some Desk = omega arith
+limit-some Pit = omega arith
+
+pub limit-low : (by : Terminal) → limitOf by ≤ 989
+unfolding limitOf
+limit-low Desk = omega arith
+limit-low Pit = omega arith
 
 -- ---- refused, or not
 
@@ -85,9 +98,9 @@ module _ (h : List ℕ) (t k : ℕ) (none-listed : held (look k (listOf h t)) �
 -- ---- of a tag with a list
 
 module _ (h : List ℕ) (t p n : ℕ) (l : Listed h t p n) where
-  pub put-held : (r : Record) → held (look (key r) (listOf h t)) ≡ true → Ends h (putIn h t r) (Refused 8) h
+  pub put-held : (by : Terminal) (r : Record) → held (look (key r) (listOf h t)) ≡ true → Ends h (putIn by h t r) (Refused 8) h
   unfolding putBy listOf first
-  put-held r e = refuses h t (put (stepOf h) (8 * pagesOf h) t r (decode h)) 8 (rw e)
+  put-held by r e = refuses h t (putOf by h t r) 8 (rw e)
 
   pub drop-done : Ends h (dropIn h t) (Count 0) (changed h t [])
   unfolding dropTag first
@@ -106,14 +119,14 @@ set-done h t p n j m k g =
 
 -- ---- a record put to a tag with a list
 
--- where 8, 10 and 11 do not apply, it depends on 12
-last : (step area t : ℕ) (r : Record) (zs : List Zone) → held (look (key r) (find t (blocks zs))) ≡ false → length (find t (blocks zs)) < 989
+-- where those before it do not apply, it depends on 12
+last : (step area limit full t : ℕ) (r : Record) (zs : List Zone) → held (look (key r) (find t (blocks zs))) ≡ false → length (find t (blocks zs)) < limit
     → not (hasTag t (blocks zs)) && leb 256 (length (blocks zs)) ≡ false → (b : Bool) → leb (totalAfter step t (insert r (find t (blocks zs))) zs) area ≡ b
-    → refusal (put step area t r zs .rules) ≡ pick {A = Option ℕ} b none (some 12)
+    → refusal (put step area limit full t r zs .rules) ≡ pick {A = Option ℕ} b none (some 12)
 unfolding putBy first
-last step area t r zs h g f b e =
+last step area limit full t r zs h g f b e =
     let rs : List Record = find t (blocks zs) in
-    rw (h, lt-leb 989 (length rs) g, f, sym (not-leb (totalAfter step t (insert r rs) zs) area) ∙ ap not e) (flip b)
+    rw (h, lt-leb limit (length rs) g, f, sym (not-leb (totalAfter step t (insert r rs) zs) area) ∙ ap not e) (flip b)
   where
     flip : (b : Bool) → pick {A = Option ℕ} (not b) (some 12) none ≡ pick {A = Option ℕ} b none (some 12)
     flip true = refl
@@ -126,11 +139,11 @@ module _ (h : List ℕ) (t p n j : ℕ) (r : Record) (k : Missing h t p n j r) w
   abbrev new : List Record
   new = insert r (listOf h t)
 
-  pub put-full : n ≡ 989 → Ends h (putIn h t r) (Refused 10) h
+  pub put-full : (by : Terminal) → limitOf by ≤ n → Ends h (putIn by h t r) (Refused (fullOf by)) h
   unfolding putBy listOf first
-  put-full e =
-      let g : leb 989 (length (find t (blocks (decode h)))) ≡ true = le-leb 989 (length (find t (blocks (decode h)))) (omega (arith, listed-many h t p n (k .listed))) in
-      refuses h t (put step (8 * pagesOf h) t r (decode h)) 10 (rw (k .held, g))
+  put-full by e =
+      let g : leb (limitOf by) (length (find t (blocks (decode h)))) ≡ true = le-leb (limitOf by) (length (find t (blocks (decode h)))) (omega (arith, listed-many h t p n (k .listed))) in
+      refuses h t (putOf by h t r) (fullOf by) (rw (k .held, g))
 
   old-size : blockSize (cells step) (classOf step) (listOf h t) ≡ cells step (classOf step n)
   unfolding listOf
@@ -148,38 +161,38 @@ module _ (h : List ℕ) (t p n j : ℕ) (r : Record) (k : Missing h t p n j r) w
         had-size (cells step) (classOf step) (rises step) (8 * pagesOf h) t (decode h) (sound-valid h (k .listed .sound)) (listed-lying h t p n (k .listed) .sits .tag) (listed-has h t p n (k .listed)) .1,
       )
 
-  module _ (short : n < 989) where
-    -- whether there is room is known by the sizes of all blocks
-    fits-total : fitsAfter step h (classOf step n) (classOf step (n + 1)) ≡ leb (totalAfter step t new (decode h)) (8 * pagesOf h)
-    unfolding listOf totalAfterBy
-    fits-total =
-        let m : length new ≡ n + 1 = new-many h t p n j r k in
-        let b : blockSize (cells step) (classOf step) new ≡ cells step (classOf step (n + 1)) = size-some (cells step) (classOf step) new (omega (arith, m)) ∙ ap (λ (d : ℕ). cells step (classOf step d)) m in
-        sym (ap₂ (λ (x y : ℕ). leb (total (cells step) 0 (decode h) - x + y) (8 * pagesOf h)) old-size b
-        ∙ leb-iff (total (cells step) 0 (decode h) - cells step (classOf step n) + cells step (classOf step (n + 1))) (8 * pagesOf h) (total (cells step) 0 (decode h) + cells step (classOf step (n + 1))) (8 * pagesOf h + cells step (classOf step n))
-        (λ g. omega (arith, old-least)) (λ g. omega (arith, old-least)))
+  -- whether there is room is known by the sizes of all blocks
+  fits-total : fitsAfter step h (classOf step n) (classOf step (n + 1)) ≡ leb (totalAfter step t new (decode h)) (8 * pagesOf h)
+  unfolding listOf totalAfterBy
+  fits-total =
+      let m : length new ≡ n + 1 = new-many h t p n j r k in
+      let b : blockSize (cells step) (classOf step) new ≡ cells step (classOf step (n + 1)) = size-some (cells step) (classOf step) new (omega (arith, m)) ∙ ap (λ (d : ℕ). cells step (classOf step d)) m in
+      sym (ap₂ (λ (x y : ℕ). leb (total (cells step) 0 (decode h) - x + y) (8 * pagesOf h)) old-size b
+      ∙ leb-iff (total (cells step) 0 (decode h) - cells step (classOf step n) + cells step (classOf step (n + 1))) (8 * pagesOf h) (total (cells step) 0 (decode h) + cells step (classOf step (n + 1))) (8 * pagesOf h + cells step (classOf step n))
+      (λ g. omega (arith, old-least)) (λ g. omega (arith, old-least)))
 
-    pub put-room : fitsAfter step h (classOf step n) (classOf step (n + 1)) ≡ isSome (change step (8 * pagesOf h) t new (decode h))
-    put-room = fits-total ∙ sym (exactly (cells step) (classOf step) (rises step) (8 * pagesOf h) t (decode h) (sound-valid h (k .listed .sound)) (listed-lying h t p n (k .listed) .sits .tag) new (new-proper h t p n j r k short))
+  pub put-room : n < 989 → fitsAfter step h (classOf step n) (classOf step (n + 1)) ≡ isSome (change step (8 * pagesOf h) t new (decode h))
+  put-room short = fits-total ∙ sym (exactly (cells step) (classOf step) (rises step) (8 * pagesOf h) t (decode h) (sound-valid h (k .listed .sound)) (listed-lying h t p n (k .listed) .sits .tag) new (new-proper h t p n j r k short))
 
-    -- and there is where the class stays
-    pub put-keeps : classOf step (n + 1) ≡ classOf step n → fitsAfter step h (classOf step n) (classOf step (n + 1)) ≡ true
-    put-keeps e =
-        ap (fitsAfter step h (classOf step n)) e
-        ∙ le-leb (total (cells step) 0 (decode h) + cells step (classOf step n)) (8 * pagesOf h + cells step (classOf step n)) (omega (arith, total-low (cells step) (classOf step) (rises step) (8 * pagesOf h) (decode h) (sound-valid h (k .listed .sound))))
+  -- and there is where the class stays
+  pub put-keeps : classOf step (n + 1) ≡ classOf step n → fitsAfter step h (classOf step n) (classOf step (n + 1)) ≡ true
+  put-keeps e =
+      ap (fitsAfter step h (classOf step n)) e
+      ∙ le-leb (total (cells step) 0 (decode h) + cells step (classOf step n)) (8 * pagesOf h + cells step (classOf step n)) (omega (arith, total-low (cells step) (classOf step) (rises step) (8 * pagesOf h) (decode h) (sound-valid h (k .listed .sound))))
 
-    put-last : (b : Bool) → fitsAfter step h (classOf step n) (classOf step (n + 1)) ≡ b → refusal (put step (8 * pagesOf h) t r (decode h) .rules) ≡ pick {A = Option ℕ} b none (some 12)
+  module _ (by : Terminal) (short : n < limitOf by) where
+    put-last : (b : Bool) → fitsAfter step h (classOf step n) (classOf step (n + 1)) ≡ b → refusal (putOf by h t r .rules) ≡ pick {A = Option ℕ} b none (some 12)
     unfolding listOf
     put-last b q =
         let many : n ≡ length (find t (blocks (decode h))) = listed-many h t p n (k .listed) in
-        last step (8 * pagesOf h) t r (decode h) (k .held) (omega arith) (rw (listed-has h t p n (k .listed)) refl) b (sym fits-total ∙ q)
+        last step (8 * pagesOf h) (limitOf by) (fullOf by) t r (decode h) (k .held) (omega arith) (rw (listed-has h t p n (k .listed)) refl) b (sym fits-total ∙ q)
 
-    pub put-done : fitsAfter step h (classOf step n) (classOf step (n + 1)) ≡ true → Ends h (putIn h t r) (Count (n + 1)) (changed h t new)
+    pub put-done : fitsAfter step h (classOf step n) (classOf step (n + 1)) ≡ true → Ends h (putIn by h t r) (Count (n + 1)) (changed h t new)
     unfolding putBy listOf
-    put-done i = makes h t (put step (8 * pagesOf h) t r (decode h)) (n + 1) new (put-last true i) refl (sym (new-many h t p n j r k))
+    put-done i = makes h t (putOf by h t r) (n + 1) new (put-last true i) refl (sym (new-many h t p n j r k))
 
-    pub put-no-room : fitsAfter step h (classOf step n) (classOf step (n + 1)) ≡ false → Ends h (putIn h t r) (Refused 12) h
-    put-no-room i = refuses h t (put step (8 * pagesOf h) t r (decode h)) 12 (put-last false i)
+    pub put-no-room : fitsAfter step h (classOf step n) (classOf step (n + 1)) ≡ false → Ends h (putIn by h t r) (Refused 12) h
+    put-no-room i = refuses h t (putOf by h t r) 12 (put-last false i)
 
 -- ---- of an unknown tag
 
@@ -216,11 +229,12 @@ module _ (h : List ℕ) (t : ℕ) (s : sound h ≡ true) (no : hasTag t (blocks 
   nothing-listed : length (find t (blocks (decode h))) ≡ 0
   nothing-listed = rw nothing-found
 
-  pub put-tags : (r : Record) → get16 h 0 ≡ 256 → Ends h (putIn h t r) (Refused 11) h
+  pub put-tags : (by : Terminal) (r : Record) → get16 h 0 ≡ 256 → Ends h (putIn by h t r) (Refused 11) h
   unfolding putBy first
-  put-tags r e =
+  put-tags by r e =
+      let few : leb (limitOf by) 0 ≡ false = lt-leb (limitOf by) 0 (limit-some by) in
       let g : leb 256 (length (blocks (decode h))) ≡ true = le-leb 256 (length (blocks (decode h))) (omega (arith, sound-tags h s)) in
-      refuses h t (put (stepOf h) (8 * pagesOf h) t r (decode h)) 11 (rw (nothing-held (key r), nothing-listed, no, g))
+      refuses h t (putOf by h t r) 11 (rw (nothing-held (key r), nothing-listed, few, no, g))
 
   module _ (small : t < 4294967296) (few : get16 h 0 ≢ 256) (r : Record) (fits : Fits r) (bs : List ℕ) (e : bs ≡ recordBytes (r ∷ [])) where
     fewer : length (blocks (decode h)) < 256
@@ -254,19 +268,20 @@ module _ (h : List ℕ) (t : ℕ) (s : sound h ≡ true) (no : hasTag t (blocks 
     one-listed : Proper (r ∷ [])
     one-listed = record { rising = rising-one r; fits = more fits nothing; short = omega arith }
 
-    new-last : (b : Bool) → isSome (settledIn h t bs) ≡ b → refusal (put (stepOf h) (8 * pagesOf h) t r (decode h) .rules) ≡ pick {A = Option ℕ} b none (some 12)
-    new-last b q =
-        let x : isSome (change (stepOf h) (8 * pagesOf h) t (r ∷ []) (decode h)) ≡ leb (totalAfter (stepOf h) t (r ∷ []) (decode h)) (8 * pagesOf h) = exactly (cells (stepOf h)) (classOf (stepOf h)) (rises (stepOf h)) (8 * pagesOf h) t (decode h) (sound-valid h s) small (r ∷ []) one-listed in
-        last (stepOf h) (8 * pagesOf h) t r (decode h) (nothing-held (key r)) (omega (arith, nothing-listed)) (rw (no, lt-leb 256 (length (blocks (decode h))) fewer) refl) b
-        (ap (λ (l : List Record). leb (totalAfter (stepOf h) t l (decode h)) (8 * pagesOf h)) list-is ∙ sym x ∙ ap isSome settles ∙ q)
+    module _ (by : Terminal) where
+      new-last : (b : Bool) → isSome (settledIn h t bs) ≡ b → refusal (putOf by h t r .rules) ≡ pick {A = Option ℕ} b none (some 12)
+      new-last b q =
+          let x : isSome (change (stepOf h) (8 * pagesOf h) t (r ∷ []) (decode h)) ≡ leb (totalAfter (stepOf h) t (r ∷ []) (decode h)) (8 * pagesOf h) = exactly (cells (stepOf h)) (classOf (stepOf h)) (rises (stepOf h)) (8 * pagesOf h) t (decode h) (sound-valid h s) small (r ∷ []) one-listed in
+          last (stepOf h) (8 * pagesOf h) (limitOf by) (fullOf by) t r (decode h) (nothing-held (key r)) (omega (arith, nothing-listed, limit-some by)) (rw (no, lt-leb 256 (length (blocks (decode h))) fewer) refl) b
+          (ap (λ (l : List Record). leb (totalAfter (stepOf h) t l (decode h)) (8 * pagesOf h)) list-is ∙ sym x ∙ ap isSome settles ∙ q)
 
-    pub new-done : (x : List ℕ) → isSome (settledIn h t bs) ≡ true → x ≡ settled (stepOf h) (pagesOf h) h (settledIn h t bs) → Ends h (putIn h t r) (Count 1) x
-    unfolding putBy
-    new-done x i y =
-        let d = makes h t (put (stepOf h) (8 * pagesOf h) t r (decode h)) 1 (r ∷ []) (new-last true i) list-is refl in
-        (d .0, y ∙ ap (settled (stepOf h) (pagesOf h) h) (sym settles) ∙ d .1)
+      pub new-done : (x : List ℕ) → isSome (settledIn h t bs) ≡ true → x ≡ settled (stepOf h) (pagesOf h) h (settledIn h t bs) → Ends h (putIn by h t r) (Count 1) x
+      unfolding putBy
+      new-done x i y =
+          let d = makes h t (putOf by h t r) 1 (r ∷ []) (new-last true i) list-is refl in
+          (d .0, y ∙ ap (settled (stepOf h) (pagesOf h) h) (sym settles) ∙ d .1)
 
-    pub new-no-room : (x : List ℕ) → isSome (settledIn h t bs) ≡ false → x ≡ settled (stepOf h) (pagesOf h) h (settledIn h t bs) → Ends h (putIn h t r) (Refused 12) x
-    new-no-room x i y =
-        let d = refuses h t (put (stepOf h) (8 * pagesOf h) t r (decode h)) 12 (new-last false i) in
-        (d .0, y ∙ settled-none (stepOf h) (pagesOf h) h (settledIn h t bs) i ∙ d .1)
+      pub new-no-room : (x : List ℕ) → isSome (settledIn h t bs) ≡ false → x ≡ settled (stepOf h) (pagesOf h) h (settledIn h t bs) → Ends h (putIn by h t r) (Refused 12) x
+      new-no-room x i y =
+          let d = refuses h t (putOf by h t r) 12 (new-last false i) in
+          (d .0, y ∙ settled-none (stepOf h) (pagesOf h) h (settledIn h t bs) i ∙ d .1)

@@ -27,7 +27,33 @@ ghost use Rattle.home.specs.Sound.{sound};
 ghost use Rattle.moves.specs.Stored.{Stored};
 ghost use Rattle.lists.specs.Listed.{Listed, Missing};
 ghost use Rattle.wire.specs.Rules.{answered, left};
-ghost use Rattle.edits.specs.Edits.{putIn, deleteIn, setIn, dropIn, fitsAfter};
+ghost use Rattle.edits.specs.Edits.{limitOf, fullOf, putIn, deleteIn, setIn, dropIn, fitsAfter};
+
+// Who puts a call: the desk, or a terminal in the pit.
+pub enum Terminal {
+    Desk,
+    Pit,
+}
+
+// How many records close a list to a terminal.
+fn limit(by: Terminal) -> usize
+    ensures { λ n. ⌜ n ≡ limitOf by ⌝ }
+{
+    match by {
+        Terminal::Desk => 989,
+        Terminal::Pit => 64,
+    }
+}
+
+// The refusal of a put to a list that is closed to a terminal.
+fn full(by: Terminal) -> u8
+    ensures { λ n. ⌜ n ≡ fullOf by ⌝ }
+{
+    match by {
+        Terminal::Desk => 10,
+        Terminal::Pit => 17,
+    }
+}
 
 // Whether all blocks fit in the area once one of class d stands for one of class c.
 fn room_after(home: &[u8], step: usize, c: usize, d: usize) -> bool
@@ -39,13 +65,21 @@ fn room_after(home: &[u8], step: usize, c: usize, d: usize) -> bool
 }
 
 // Puts a record in at its rank among the n records of the tag's block at cell p.
-fn insert_record(home: &mut [u8], tag: u32, p: usize, n: usize, j: usize, r: Record) -> Answer
+fn insert_record(
+    home: &mut [u8],
+    by: Terminal,
+    tag: u32,
+    p: usize,
+    n: usize,
+    j: usize,
+    r: Record,
+) -> Answer
     requires { ⌜ Missing (now home) tag p n j r ⌝ }
-    ensures { λ a. ⌜ a ≡ answered Answer.Refused (putIn (now (home .entry)) tag r) ⌝ }
-    ensures { λ _. ⌜ now (home .exit) ≡ left (putIn (now (home .entry)) tag r) (now (home .entry)) ⌝ }
+    ensures { λ a. ⌜ a ≡ answered Answer.Refused (putIn by (now (home .entry)) tag r) ⌝ }
+    ensures { λ _. ⌜ now (home .exit) ≡ left (putIn by (now (home .entry)) tag r) (now (home .entry)) ⌝ }
 {
-    if n == 989 {
-        return Answer::Refused(10);
+    if n >= limit(by) {
+        return Answer::Refused(full(by));
     }
     let step = step_of(home);
     let c = class_of(step, n);
@@ -62,22 +96,22 @@ fn insert_record(home: &mut [u8], tag: u32, p: usize, n: usize, j: usize, r: Rec
 }
 
 // Puts a record to a tag that has a block of n records at cell p.
-fn put_known(home: &mut [u8], tag: u32, p: usize, n: usize, r: Record) -> Answer
+fn put_known(home: &mut [u8], by: Terminal, tag: u32, p: usize, n: usize, r: Record) -> Answer
     requires { ⌜ Listed (now home) tag p n ⌝ }
-    ensures { λ a. ⌜ a ≡ answered Answer.Refused (putIn (now (home .entry)) tag r) ⌝ }
-    ensures { λ _. ⌜ now (home .exit) ≡ left (putIn (now (home .entry)) tag r) (now (home .entry)) ⌝ }
+    ensures { λ a. ⌜ a ≡ answered Answer.Refused (putIn by (now (home .entry)) tag r) ⌝ }
+    ensures { λ _. ⌜ now (home .exit) ≡ left (putIn by (now (home .entry)) tag r) (now (home .entry)) ⌝ }
 {
     match search_at(home, p, n, records::key_of(r)) {
         Rank::Found(_) => Answer::Refused(8),
-        Rank::Absent(j) => insert_record(home, tag, p, n, j, r),
+        Rank::Absent(j) => insert_record(home, by, tag, p, n, j, r),
     }
 }
 
 // Puts a record to a tag that has none.
-fn put_new(home: &mut [u8], tag: u32, r: Record) -> Answer
+fn put_new(home: &mut [u8], by: Terminal, tag: u32, r: Record) -> Answer
     requires { ⌜ (sound (now home) ≡ true) × (hasTag tag (blocks (decode (now home))) ≡ false) ⌝ }
-    ensures { λ a. ⌜ a ≡ answered Answer.Refused (putIn (now (home .entry)) tag r) ⌝ }
-    ensures { λ _. ⌜ now (home .exit) ≡ left (putIn (now (home .entry)) tag r) (now (home .entry)) ⌝ }
+    ensures { λ a. ⌜ a ≡ answered Answer.Refused (putIn by (now (home .entry)) tag r) ⌝ }
+    ensures { λ _. ⌜ now (home .exit) ≡ left (putIn by (now (home .entry)) tag r) (now (home .entry)) ⌝ }
 {
     if wire::get16(home, 0) == 256 {
         return Answer::Refused(11);
@@ -91,15 +125,15 @@ fn put_new(home: &mut [u8], tag: u32, r: Record) -> Answer
     }
 }
 
-// Puts a record to a tag's list. Refused: 8, listed already; 10, 989 records; 11, 256 tags; 12, no room.
-pub fn put(home: &mut [u8], tag: u32, r: Record) -> Answer
+// Puts a record to a tag's list. Refused: 8, listed already; 10, 989 records, or 17, 64 records for the pit; 11, 256 tags; 12, no room.
+pub fn put(home: &mut [u8], by: Terminal, tag: u32, r: Record) -> Answer
     requires { ⌜ sound (now home) ≡ true ⌝ }
-    ensures { λ a. ⌜ a ≡ answered Answer.Refused (putIn (now (home .entry)) tag r) ⌝ }
-    ensures { λ _. ⌜ now (home .exit) ≡ left (putIn (now (home .entry)) tag r) (now (home .entry)) ⌝ }
+    ensures { λ a. ⌜ a ≡ answered Answer.Refused (putIn by (now (home .entry)) tag r) ⌝ }
+    ensures { λ _. ⌜ now (home .exit) ≡ left (putIn by (now (home .entry)) tag r) (now (home .entry)) ⌝ }
 {
     match block_of(home, tag) {
-        TagBlock::Known(p, n) => put_known(home, tag, p, n, r),
-        TagBlock::Unknown => put_new(home, tag, r),
+        TagBlock::Known(p, n) => put_known(home, by, tag, p, n, r),
+        TagBlock::Unknown => put_new(home, by, tag, r),
     }
 }
 

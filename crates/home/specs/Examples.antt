@@ -47,7 +47,7 @@ tagOf (dropping t) = t
 
 made : (step : ℕ) → ℕ → Asked → List Zone → Edit
 unfolding of putBy delete setMinutes dropTag key
-made step n (putting t l s p m) zs = put step n t (of l s p m) zs
+made step n (putting t l s p m) zs = put step n 989 10 t (of l s p m) zs
 made step n (deleting t l s p) zs = delete t (key (of l s p 0)) zs
 made step n (setting t l s p m) zs = setMinutes t (key (of l s p 0)) m zs
 made step n (dropping t) zs = dropTag t zs

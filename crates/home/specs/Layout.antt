@@ -41,5 +41,5 @@ change step area t rs zs = changeBy (cells step) (classOf step) area t rs zs
 abbrev pub totalAfter : ℕ → ℕ → List Record → List Zone → ℕ
 totalAfter step t rs zs = totalAfterBy (cells step) (classOf step) t rs zs
 
-abbrev pub put : ℕ → ℕ → ℕ → Record → List Zone → Edit
-put step area t r zs = putBy (cells step) (classOf step) area t r zs
+abbrev pub put : ℕ → ℕ → ℕ → ℕ → ℕ → Record → List Zone → Edit
+put step area limit full t r zs = putBy (cells step) (classOf step) area limit full t r zs

@@ -10,6 +10,7 @@ use Rattle.redo.specs.Image.{home}
 use Rattle.redo.specs.Stores.{formatStores}
 use Rattle.log.specs.Calls.{Plan, refuse, store, formattable}
 use Rattle.home.specs.declared.Answer.{Answer}
+use Rattle.edits.specs.declared.Terminal.{Terminal}
 use Rattle.edits.specs.Edits.{putIn, deleteIn, setIn, dropIn}
 use Rattle.gates.specs.declared.Of.the-variants.{Image, Space}
 use Rattle.gates.specs.Gates.{gateRules}
@@ -23,9 +24,9 @@ copied h w = record { rules = rule 6 (not (eqb (length w) (length h))) ∷ []; a
 unfoldable pub beginCall : List ℕ → List ℕ → Ruled Begun
 beginCall l w = behind (gateRules Image l) (copied (home l) w)
 
--- "Put a record": to a tag's list
-unfoldable pub putCall : List ℕ → ℕ → Record → Ruled Answer
-putCall w t r = behind (gateRules Space w) (putIn w t r)
+-- "Put a record": to a tag's list, by the desk or the pit
+unfoldable pub putCall : Terminal → List ℕ → ℕ → Record → Ruled Answer
+putCall by w t r = behind (gateRules Space w) (putIn by w t r)
 
 -- "delete one": by the key of its primary part
 unfoldable pub deleteCall : List ℕ → ℕ → ℕ → Ruled Answer

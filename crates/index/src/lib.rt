@@ -1,4 +1,5 @@
 // The call index: the calls that begin, edit, commit, recover and format.
+use edits::Terminal;
 use gates::Access;
 use gates::Of;
 use home::Answer;
@@ -41,15 +42,31 @@ pub fn begin(image: &[u8], space: &mut [u8]) -> Begun
     }
 }
 
-// Puts a record to a tag's list in a workspace. Refused after 6 and 7: 8, listed already; 10, 989 records; 11, 256 tags; 12, no room.
-pub fn put(space: &mut [u8], tag: u32, r: Record) -> Answer
-    ensures { λ a. ⌜ a ≡ answered Answer.Refused (putCall (now (space .entry)) tag r) ⌝ }
-    ensures { λ _. ⌜ now (space .exit) ≡ left (putCall (now (space .entry)) tag r) (now (space .entry)) ⌝ }
+// Puts a record to a tag's list in a workspace, by either terminal.
+pub fn put_by(space: &mut [u8], by: Terminal, tag: u32, r: Record) -> Answer
+    ensures { λ a. ⌜ a ≡ answered Answer.Refused (putCall by (now (space .entry)) tag r) ⌝ }
+    ensures { λ _. ⌜ now (space .exit) ≡ left (putCall by (now (space .entry)) tag r) (now (space .entry)) ⌝ }
 {
     match gates::gate(Of::Space, space) {
-        Access::Open => edits::put(space, tag, r),
+        Access::Open => edits::put(space, by, tag, r),
         Access::Refused(n) => Answer::Refused(n),
     }
+}
+
+// Puts a record by the desk. Refused after 6 and 7: 8, listed already; 10, 989 records; 11, 256 tags; 12, no room.
+pub fn put(space: &mut [u8], tag: u32, r: Record) -> Answer
+    ensures { λ a. ⌜ a ≡ answered Answer.Refused (putCall Terminal.Desk (now (space .entry)) tag r) ⌝ }
+    ensures { λ _. ⌜ now (space .exit) ≡ left (putCall Terminal.Desk (now (space .entry)) tag r) (now (space .entry)) ⌝ }
+{
+    put_by(space, Terminal::Desk, tag, r)
+}
+
+// Puts a record by the pit. Refused after 6 and 7: 8, listed already; 17, 64 records; 11, 256 tags; 12, no room.
+pub fn put_pit(space: &mut [u8], tag: u32, r: Record) -> Answer
+    ensures { λ a. ⌜ a ≡ answered Answer.Refused (putCall Terminal.Pit (now (space .entry)) tag r) ⌝ }
+    ensures { λ _. ⌜ now (space .exit) ≡ left (putCall Terminal.Pit (now (space .entry)) tag r) (now (space .entry)) ⌝ }
+{
+    put_by(space, Terminal::Pit, tag, r)
 }
 
 // Deletes the record with r's level, second and phone from a tag's list. Refused after 6 and 7: 9, no such record.

@@ -15,13 +15,14 @@ pub record Edit : Type 0 where
   pub rules : List Rule
   pub list : List Record
 
--- "8: put, primary part already listed", "10: put to a list of 989", "11: put, new tag, 256 present"; 12: "the sizes of all blocks after the edit add up to more than the record area"
-unfoldable pub put : (ℕ → ℕ) → (ℕ → ℕ) → ℕ → ℕ → Record → List Zone → Edit
-put cells classOf area t r zs =
+-- "8: put, primary part already listed", "11: put, new tag, 256 present"; 12: "the sizes of all blocks after the edit add up to more than the record area".
+-- Between 8 and 11 the number `full`, put to a list of `limit` or more.
+unfoldable pub put : (ℕ → ℕ) → (ℕ → ℕ) → ℕ → ℕ → ℕ → ℕ → Record → List Zone → Edit
+put cells classOf area limit full t r zs =
     let rs : List Record = find t (blocks zs) in
     record {
       rules = rule 8 (held (look (key r) rs))
-          ∷ rule 10 (leb 989 (length rs))
+          ∷ rule full (leb limit (length rs))
           ∷ rule 11 (not (hasTag t (blocks zs)) && leb 256 (length (blocks zs)))
           ∷ rule 12 (ltb area (totalAfter cells classOf t (insert r rs) zs))
           ∷ [];

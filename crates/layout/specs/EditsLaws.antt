@@ -193,14 +193,14 @@ module _ (cells classOf : ℕ → ℕ) (up : Rising cells classOf) where
     free-new [] h o = absurd (omega arith)
     free-new (r ∷ rs) h o = λ k. leb-false 256 (length (blocks zs)) (rw k at o)
 
-    pub put-fine : (r : Record) → Fits r → refusal (put cells classOf n t r zs .rules) ≡ none → Fine (insert r list)
+    pub put-fine : (limit full : ℕ) → limit ≤ 989 → (r : Record) → Fits r → refusal (put cells classOf n limit full t r zs .rules) ≡ none → Fine (insert r list)
     unfolding put
-    put-fine r f e =
+    put-fine limit full low r f e =
         let a = passes 8 (held (look (key r) list)) _ e in
-        let b = passes 10 (leb 989 (length list)) _ (a .1) in
+        let b = passes full (leb limit (length list)) _ (a .1) in
         let c = passes 11 (not (hasTag t (blocks zs)) && leb 256 (length (blocks zs))) _ (b .1) in
         let d = passes 12 (ltb n (totalAfter cells classOf t (insert r list) zs)) [] (c .1) in
-        let l : Proper (insert r list) = insert-listed r list f (a .0) (leb-false 989 (length list) (b .0)) proper in
+        let l : Proper (insert r list) = insert-listed r list f (a .0) (omega (arith, leb-false limit (length list) (b .0))) proper in
         record {
           listed = l;
           free = free-new (insert r list) (omega (arith, length-insert r list)) (c .0);

@@ -11,6 +11,7 @@ use Rattle.log.specs.Calls.{Plan, refuse, answer, after, commitPlan}
 use Rattle.home.specs.Sound.{sound}
 use Rattle.home.specs.declared.Answer.{Answer}
 use Rattle.home.specs.declared.Answer.the-variants.{Count, Refused as NotEdited}
+use Rattle.edits.specs.declared.Terminal.the-variants.{Desk}
 use Rattle.index.specs.Calls.{beginCall, putCall, deleteCall, setCall, dropCall}
 use Rattle.parse.specs.declared.Word.{Word}
 use Rattle.parse.specs.declared.Word.the-variants.{Put, Del, Set, Drop, Show}
@@ -20,7 +21,7 @@ use Rattle.parse.specs.declared.Command.{Command}
 
 -- the edit of a workspace; `list` changes nothing
 unfoldable pub editOf : Word → List ℕ → ℕ → Record → Ruled Answer
-editOf Put w t r = putCall w t r
+editOf Put w t r = putCall Desk w t r
 editOf Del w t r = deleteCall w t (key r)
 editOf Set w t r = setCall w t (key r) (r .minutes)
 editOf Drop w t r = dropCall w t

@@ -31,7 +31,7 @@ same-length c = search needs
 returns : tie.Need-returns
 returns c =
     let f = found-held (key (c .before .before .before .before .before .before .args .r)) (c .enum-told .given .0 .0) _ (sym (c .enum-told .given .1) ∙ c .before .before .search-at .ensures ∙ ap₂ rankedIn (c .before .before .before .key-of .ensures) (listed-records _ _ _ _ (c .before .before .before .before .before .before .pre))) in
-    put-held _ _ _ _ (c .before .before .before .before .before .before .pre) _ (f .0)
+    put-held _ _ _ _ (c .before .before .before .before .before .before .pre) _ _ (f .0)
 
 same-length-2 : tie.Need-same-length-2
 same-length-2 c = search needs

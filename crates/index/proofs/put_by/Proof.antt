@@ -3,8 +3,8 @@ use Rattle.wire.specs.RulesLaws.{gate-opens, gate-refuses}
 use Rattle.gates.specs.GatesLaws.{gate-open, gate-refused, space-open}
 use Rattle.index.specs.Calls.{putCall}
 use borrow.Author.Needs.{needs}
-use Rattle.index.proofs.put.Statement.{statement}
-use Rattle.index.proofs.put.Tie as tie
+use Rattle.index.proofs.put_by.Statement.{statement}
+use Rattle.index.proofs.put_by.Tie as tie
 
 gate-requires : tie.Need-gate-requires
 gate-requires c κs = search needs
@@ -32,8 +32,8 @@ returns-2 : tie.Need-returns-2
 unfolding putCall
 returns-2 c = gate-refuses _ _ (c .before .before .before .before .before .before .args .space .now) _ _ (gate-refused _ _ (sym (c .before .before .before .gate .ensures) ∙ c .before .n .given .1))
 
-pub put-spec : {M : Type 1} → statement M
-put-spec =
+pub put-by-spec : {M : Type 1} → statement M
+put-by-spec =
     tie.close
     (tie.spec
     gate-requires
