@@ -6,3 +6,6 @@ pub mod Ranks
 pub mod Step
 pub mod Claim
 pub mod Afresh
+pub mod Sequences
+pub mod SequencesLaws
+pub mod Pit

@@ -5,7 +5,6 @@ use mathlib.Core.Bool.{Bool}
 use mathlib.Core.List.{List, []}
 use mathlib.Core.Option.{Option, none, some}
 use Rattle.wire.specs.Rules.{Rule, answered, left}
-use Rattle.records.specs.declared.Record.{Record}
 use Rattle.merges.specs.declared.Merge.{Merge}
 use Rattle.log.specs.declared.Outcome.{Outcome}
 use Rattle.log.specs.declared.Outcome.the-variants.{Done, Cut, Refused as NotStored}
@@ -16,18 +15,15 @@ use Rattle.gates.specs.declared.Of.{Of}
 use Rattle.gates.specs.Gates.{gateRules}
 use Rattle.reads.specs.Reads.{countIn, rankIn}
 use Rattle.reads.specs.Merges.{mergeIn}
-use Rattle.edits.specs.declared.Terminal.{Terminal}
 use Rattle.index.specs.declared.Begun.{Begun}
 use Rattle.index.specs.declared.Begun.the-variants.{Done as Copied, Refused as NotBegun}
-use Rattle.index.specs.Calls.{beginCall, putCall, deleteCall, setCall, dropCall, formatRules, formatPlan}
+use Rattle.index.specs.Calls.{beginCall, formatRules, formatPlan}
+use Rattle.demands.specs.Sequences.{Edit, editCall, answerOf, made}
 
 -- (a commit by the test of home and workspace that it makes: the index's, or the log's own, which accepts all)
 pub data Call : Type 0 where
   begin : List ℕ → List ℕ → Call
-  put : Terminal → List ℕ → ℕ → Record → Call
-  delete : List ℕ → ℕ → ℕ → Call
-  setMinutes : List ℕ → ℕ → ℕ → ℕ → Call
-  dropTag : List ℕ → ℕ → Call
+  edit : Edit → List ℕ → Call
   count : Of → List ℕ → ℕ → Call
   rank : Of → List ℕ → ℕ → ℕ → Call
   merge : Merge → Of → List ℕ → ℕ → ℕ → List ℕ → Call
@@ -37,12 +33,9 @@ pub data Call : Type 0 where
 
 -- its refusals, in order
 unfoldable pub rulesOf : Call → List Rule
-unfolding beginCall putCall deleteCall setCall dropCall mergeIn
+unfolding beginCall mergeIn
 rulesOf (begin l w) = beginCall l w .rules
-rulesOf (put by w t r) = putCall by w t r .rules
-rulesOf (delete w t k) = deleteCall w t k .rules
-rulesOf (setMinutes w t k m) = setCall w t k m .rules
-rulesOf (dropTag w t) = dropCall w t .rules
+rulesOf (edit e w) = editCall e w .rules
 rulesOf (count of bs t) = gateRules of bs
 rulesOf (rank of bs t k) = gateRules of bs
 rulesOf (merge m of bs t u out) = mergeIn m of bs t u out .rules
@@ -66,10 +59,7 @@ ofOutcome (NotStored r) = some r
 
 unfoldable pub refusedWith : Call → Option ℕ
 refusedWith (begin l w) = ofBegun (answered NotBegun (beginCall l w))
-refusedWith (put by w t r) = ofAnswer (answered Refused (putCall by w t r))
-refusedWith (delete w t k) = ofAnswer (answered Refused (deleteCall w t k))
-refusedWith (setMinutes w t k m) = ofAnswer (answered Refused (setCall w t k m))
-refusedWith (dropTag w t) = ofAnswer (answered Refused (dropCall w t))
+refusedWith (edit e w) = ofAnswer (answerOf e w)
 refusedWith (count of bs t) = ofAnswer (countIn of bs t)
 refusedWith (rank of bs t k) = ofAnswer (rankIn of bs t k)
 refusedWith (merge m of bs t u out) = ofAnswer (answered Refused (mergeIn m of bs t u out))
@@ -80,10 +70,7 @@ refusedWith (format l L R step n) = ofOutcome (answer (formatPlan l L R step) n)
 -- the bytes lent to write
 unfoldable pub lent : Call → List ℕ
 lent (begin l w) = w
-lent (put by w t r) = w
-lent (delete w t k) = w
-lent (setMinutes w t k m) = w
-lent (dropTag w t) = w
+lent (edit e w) = w
 lent (count of bs t) = []
 lent (rank of bs t k) = []
 lent (merge m of bs t u out) = out
@@ -93,10 +80,7 @@ lent (format l L R step n) = l
 
 unfoldable pub givenBack : Call → List ℕ
 givenBack (begin l w) = left (beginCall l w) w
-givenBack (put by w t r) = left (putCall by w t r) w
-givenBack (delete w t k) = left (deleteCall w t k) w
-givenBack (setMinutes w t k m) = left (setCall w t k m) w
-givenBack (dropTag w t) = left (dropCall w t) w
+givenBack (edit e w) = made e w
 givenBack (count of bs t) = []
 givenBack (rank of bs t k) = []
 givenBack (merge m of bs t u out) = left (mergeIn m of bs t u out) out

@@ -22,30 +22,31 @@ use Rattle.edits.specs.declared.Terminal.the-variants.{Desk, Pit}
 use Rattle.edits.specs.Edits.{fullOf}
 use Rattle.index.specs.declared.Begun.the-variants.{Refused as NotBegun}
 use Rattle.index.specs.Calls.{beginCall, putCall, deleteCall, setCall, dropCall, formatRules, formatPlan}
-use Rattle.demands.specs.Refusals.{Call, begin, put, delete, setMinutes, dropTag, count, rank, merge, commit, recover, format, rulesOf, ofAnswer, ofBegun, ofOutcome, refusedWith, lent, givenBack}
+use Rattle.demands.specs.Sequences.{Edit, put, delete, setMinutes, dropTag, editCall, answerOf}
+use Rattle.demands.specs.Refusals.{Call, begin, edit, count, rank, merge, commit, recover, format, rulesOf, ofAnswer, ofBegun, ofOutcome, refusedWith, lent, givenBack}
 
 -- ---- which numbers each call can be refused with, in which order
 
 module _ (w : List ℕ) (t k m : ℕ) (r : Record) where
-  put-numbers : numbers (rulesOf (put Desk w t r)) ≡ 6 ∷ 7 ∷ 8 ∷ 10 ∷ 11 ∷ 12 ∷ []
-  unfolding rulesOf putCall gateRules putEdit fullOf numbers
+  put-numbers : numbers (rulesOf (edit (put Desk t r) w)) ≡ 6 ∷ 7 ∷ 8 ∷ 10 ∷ 11 ∷ 12 ∷ []
+  unfolding rulesOf editCall putCall gateRules putEdit fullOf numbers
   put-numbers = refl
 
   -- "after 8 and before 10", which no pit put meets
-  pit-numbers : numbers (rulesOf (put Pit w t r)) ≡ 6 ∷ 7 ∷ 8 ∷ 17 ∷ 11 ∷ 12 ∷ []
-  unfolding rulesOf putCall gateRules putEdit fullOf numbers
+  pit-numbers : numbers (rulesOf (edit (put Pit t r) w)) ≡ 6 ∷ 7 ∷ 8 ∷ 17 ∷ 11 ∷ 12 ∷ []
+  unfolding rulesOf editCall putCall gateRules putEdit fullOf numbers
   pit-numbers = refl
 
-  delete-numbers : numbers (rulesOf (delete w t k)) ≡ 6 ∷ 7 ∷ 9 ∷ []
-  unfolding rulesOf deleteCall gateRules deleteEdit numbers
+  delete-numbers : numbers (rulesOf (edit (delete t k) w)) ≡ 6 ∷ 7 ∷ 9 ∷ []
+  unfolding rulesOf editCall deleteCall gateRules deleteEdit numbers
   delete-numbers = refl
 
-  set-numbers : numbers (rulesOf (setMinutes w t k m)) ≡ 6 ∷ 7 ∷ 9 ∷ []
-  unfolding rulesOf setCall gateRules setEdit numbers
+  set-numbers : numbers (rulesOf (edit (setMinutes t k m) w)) ≡ 6 ∷ 7 ∷ 9 ∷ []
+  unfolding rulesOf editCall setCall gateRules setEdit numbers
   set-numbers = refl
 
-  drop-numbers : numbers (rulesOf (dropTag w t)) ≡ 6 ∷ 7 ∷ 9 ∷ []
-  unfolding rulesOf dropCall gateRules dropEdit numbers
+  drop-numbers : numbers (rulesOf (edit (dropTag t) w)) ≡ 6 ∷ 7 ∷ 9 ∷ []
+  unfolding rulesOf editCall dropCall gateRules dropEdit numbers
   drop-numbers = refl
 
 module _ (l w : List ℕ) (t u n : ℕ) (m : Merge) (out : List ℕ) where
@@ -93,14 +94,18 @@ planned : (rs : List Rule) (ss : List Store) (n : ℕ) → ofOutcome (answer (fi
 unfolding answer ofOutcome
 planned rs ss n = exactly (λ (p : Plan). ofOutcome (answer p n)) refuse rs (store ss) (λ r. refl) (by-test (leb (length ss) n) (λ e. rw e) (λ e. rw e))
 
+edited : (e : Edit) (w : List ℕ) → ofAnswer (answerOf e w) ≡ refusal (editCall e w .rules)
+unfolding editCall ofAnswer putCall deleteCall setCall dropCall
+edited (put by t r) w = exactly ofAnswer Refused _ _ (λ n. refl) refl
+edited (delete t k) w = exactly ofAnswer Refused _ _ (λ n. refl) refl
+edited (setMinutes t k m) w = exactly ofAnswer Refused _ _ (λ n. refl) refl
+edited (dropTag t) w = exactly ofAnswer Refused _ _ (λ n. refl) refl
+
 -- "where none applies the call isn't refused"
 pub refused-exactly : (c : Call) → refusedWith c ≡ refusal (rulesOf c)
-unfolding refusedWith rulesOf ofAnswer ofBegun beginCall putCall deleteCall setCall dropCall mergeIn countIn rankIn commitPlan recoverPlan formatPlan
+unfolding refusedWith rulesOf ofAnswer ofBegun beginCall mergeIn countIn rankIn commitPlan recoverPlan formatPlan
 refused-exactly (begin l w) = exactly ofBegun NotBegun _ _ (λ n. refl) refl
-refused-exactly (put by w t r) = exactly ofAnswer Refused _ _ (λ n. refl) refl
-refused-exactly (delete w t k) = exactly ofAnswer Refused _ _ (λ n. refl) refl
-refused-exactly (setMinutes w t k m) = exactly ofAnswer Refused _ _ (λ n. refl) refl
-refused-exactly (dropTag w t) = exactly ofAnswer Refused _ _ (λ n. refl) refl
+refused-exactly (edit e w) = edited e w
 refused-exactly (count of bs t) = exactly ofAnswer Refused _ _ (λ n. refl) refl
 refused-exactly (rank of bs t k) = exactly ofAnswer Refused _ _ (λ n. refl) refl
 refused-exactly (merge m of bs t u out) = exactly ofAnswer Refused _ _ (λ n. refl) refl
@@ -118,12 +123,9 @@ unfolding after
 unstored rs ss n r l e = ap (λ (p : Plan). after p n l) (first-refused refuse rs r (store ss) e)
 
 unchanged : (c : Call) (n : ℕ) → refusal (rulesOf c) ≡ some n → givenBack c ≡ lent c
-unfolding givenBack lent rulesOf beginCall putCall deleteCall setCall dropCall mergeIn commitPlan recoverPlan formatPlan
+unfolding givenBack lent rulesOf beginCall mergeIn commitPlan recoverPlan formatPlan
 unchanged (begin l w) n e = stays (beginCall l w) w n e
-unchanged (put by w t r) n e = stays (putCall by w t r) w n e
-unchanged (delete w t k) n e = stays (deleteCall w t k) w n e
-unchanged (setMinutes w t k m) n e = stays (setCall w t k m) w n e
-unchanged (dropTag w t) n e = stays (dropCall w t) w n e
+unchanged (edit e w) n q = stays (editCall e w) w n q
 unchanged (count of bs t) n e = refl
 unchanged (rank of bs t k) n e = refl
 unchanged (merge m of bs t u out) n e = stays (mergeIn m of bs t u out) out n e

@@ -11,7 +11,7 @@ use borrow.Author.Tests.{le-leb, lt-leb, eq-eqb, ne-eqb, eqb-true, not-false, lt
 use Rattle.wire.specs.Cases.{by-test, by-lt, by-eq}
 use Rattle.wire.specs.Rules.{refusal}
 use Rattle.wire.specs.RulesLaws.{passes, unrefused}
-use Rattle.log.specs.Book.{Book, refused, writes, differing, keptRules, bookRules, judge, commitNeed, needBy, recoverNeed, logs, toldMark, recovering, committing}
+use Rattle.log.specs.Book.{commit, recover, Book, Verdict, refused, writes, differing, keptRules, bookRules, judge, commitNeed, needBy, recoverNeed, logs, toldMark, recovering, committing, bookAt, next}
 
 -- ---- the book's numbers
 
@@ -100,3 +100,45 @@ module _ (accept : List ℕ → Bool) (L : ℕ) where
   pub writes-clear : (b : Book) (w : List ℕ) (k : ℕ) → judge accept L b w ≡ writes k → b .mark ≡ 0
   unfolding judge
   writes-clear b w k e = book-passed b w (unrefused refused (bookRules accept L b w) (writes (differing (b .kept) w)) (writes k) (not-writes k) e) .0
+
+-- ---- what holds of home at the start and of every workspace committed
+
+-- it holds of what is kept and of what was last logged
+pub record Both (P : List ℕ → Type 0) (b : Book) : Type 0 where
+  pub kept : P (b .kept)
+  pub logged : P (b .logged)
+
+module _ (P : List ℕ → Type 0) (b : Book) (h : Both P b) where
+  pub told-both : (v : ℕ) → Both P (toldMark b v)
+  unfolding toldMark
+  told-both v = by-test (eqb v 165)
+      (λ e. rw e (record { kept = h .logged; logged = h .logged }))
+      (λ e. rw e (record { kept = h .kept; logged = h .logged }))
+
+  recovering-both : (n v : ℕ) → Both P (recovering b n v)
+  recovering-both n v = by-recovering (Both P) b n v (told-both 0) (told-both v) h
+
+  pub logs-both : (w : List ℕ) (k : ℕ) → P w → Both P (logs b w k)
+  unfolding logs
+  logs-both w k p = record { kept = h .kept; logged = p }
+
+committing-both : (P : List ℕ → Type 0) (b : Book) (h : Both P b) (w : List ℕ) → P w → (k n v : ℕ) → Both P (committing b w k n v)
+committing-both P b h w p k n v =
+    let l : Both P (logs b w k) = logs-both P b h w k p in
+    by-committing (Both P) b w k n v
+    (λ g. h)
+    (λ g. told-both P (logs b w k) l v)
+    (λ g. recovering-both P (toldMark (logs b w k) 165) (told-both P (logs b w k) l 165) (n - (66 * k + 3)) v)
+
+module _ (accept : List ℕ → Bool) (L : ℕ) (P : List ℕ → Type 0) (b : Book) (h : Both P b) (n v : ℕ) where
+  pub recover-both : Both P (next accept L b (recover n v))
+  unfolding next
+  recover-both = recovering-both P b h n v
+
+  pub commit-both : (w : List ℕ) → P w → Both P (next accept L b (commit w n v))
+  unfolding next bookAt
+  commit-both w p = at (judge accept L b w)
+    where
+      at : (d : Verdict) → Both P (bookAt b d w n v)
+      at (refused r) = h
+      at (writes k) = by-test (eqb k 0) (λ e. rw e h) (λ e. rw e (committing-both P b h w p k n v))

@@ -1,7 +1,7 @@
 -- The claim in the user's words: which index is found after a switch-off, and that a completed commit is kept.
 use mathlib.Core.Path.{_≡_, refl, sym, ap, _∙_}
 use mathlib.Core.Bool.{Bool, true, not}
-use mathlib.Core.Logic.{_⊎_, inl, inr, ⊎-elim}
+use mathlib.Core.Logic.{_⊎_, inl, inr}
 use Prim.Native.Nat.{ℕ, _+_, _-_, _*_, _/_, _≤_, _<_}
 use native.Mathlib.Omega.{arith}
 use mathlib.Core.List.{List, [], _∷_, _++_}
@@ -22,7 +22,7 @@ use Rattle.log.specs.declared.Outcome.the-variants.{Done, Refused}
 use Rattle.log.specs.Calls.{refuse, store, answer, after, changedPages, recoverPlan, commitRules, commitPlan}
 use Rattle.log.specs.Answers.{not-store}
 use Rattle.log.specs.Book.{Call, commit, recover, allowance, value, planOf, Seen, seen, told, foretold, final, Book, start, differing, Verdict, refused, writes, bookRules, judge, commitNeed, needBy, recoverNeed, answerTo, logs, toldMark, recovering, committing, bookAt, next, bookAfter}
-use Rattle.log.specs.BookLaws.{need-clear, some-commit, recovering-done, committing-early, committing-mark, committing-late, by-recovering, book-passed, kept-passed}
+use Rattle.log.specs.BookLaws.{need-clear, some-commit, recovering-done, committing-early, committing-mark, committing-late, by-recovering, book-passed, kept-passed, Both, told-both, recover-both}
 use Rattle.log.specs.Holds.{Holds}
 use Rattle.log.specs.Steps.{Step, step, Writing, writing, writes-changed}
 use Rattle.log.specs.Claim.{Starts, Claim, begins, claim, holds, stands-of, done-enough, done-uncaught}
@@ -86,26 +86,14 @@ module _ (accept : List ℕ → Bool) (L : ℕ) where
       let e : recovering b n v ≡ toldMark b 0 = recovering-done b n v (omega (arith, need-clear b m)) in
       kept-clear (recovering b n v) a (ap (λ (c : Book). c .mark) e) ∙ ap (λ (c : Book). c .kept) e
 
-  -- where H is the old index or the one last logged, it stays one of the two
-  record OneOf (old w : List ℕ) (b : Book) : Type 0 where
-    either : (b .kept ≡ old) ⊎ (b .kept ≡ w)
-    last : b .logged ≡ w
-
-  told-one : (old w : List ℕ) (b : Book) (v : ℕ) → OneOf old w b → OneOf old w (toldMark b v)
-  unfolding toldMark
-  told-one old w b v o = by-test (eqb v 165)
-      (λ e. rw e (record { either = inr (o .last); last = o .last }))
-      (λ e. rw e (record { either = o .either; last = o .last }))
-
-  recovers-one : (old w : List ℕ) {rs : List Call} (b : Book) → All IsRecover rs → OneOf old w b → OneOf old w (bookAfter accept L rs b)
-  unfolding bookAfter next
-  recovers-one old w b none o = o
-  recovers-one old w b (more (is-recover n v) a) o =
-      recovers-one old w (recovering b n v) a (by-recovering (OneOf old w) b n v (told-one old w b 0 o) (told-one old w b v o) o)
+  recovers-both : (P : List ℕ → Type 0) {rs : List Call} (b : Book) → All IsRecover rs → Both P b → Both P (bookAfter accept L rs b)
+  unfolding bookAfter
+  recovers-both P b none h = h
+  recovers-both P b (more (is-recover n v) a) h = recovers-both P (next accept L b (recover n v)) a (recover-both accept L P b h n v)
 
   -- where both are w, it stays w
   recovers-same : (w : List ℕ) {rs : List Call} (b : Book) → All IsRecover rs → b .kept ≡ w → b .logged ≡ w → bookAfter accept L rs b .kept ≡ w
-  recovers-same w b a e f = ⊎-elim (λ z. z) (λ z. z) (recovers-one w w b a (record { either = inl e; last = f }) .either)
+  recovers-same w b a e f = recovers-both (λ (x : List ℕ). x ≡ w) b a (record { kept = e; logged = f }) .kept
 
   finds-book : {rs : List Call} → All IsRecover rs → (b : Book) (w : List ℕ) (k n v : ℕ) → b .mark ≡ 0
       → Finds n v k (b .kept) w (bookAfter accept L rs (committing b w k n v) .kept)
@@ -117,7 +105,7 @@ module _ (accept : List ℕ → Bool) (L : ℕ) where
         let j : ℕ = n - (66 * k + 3) in
         rw (committing-late b n v w k g) (recovers-same w (recovering c j v) a (by-recovering (λ (d : Book). d .kept ≡ w) c j v refl (told-new v) refl) (by-recovering (λ (d : Book). d .logged ≡ w) c j v refl refl refl));
     halfway = λ e. rw (committing-mark b n v w k e)
-        (recovers-one (b .kept) w (toldMark (logs b w k) v) a (told-one (b .kept) w (logs b w k) v (record { either = inl refl; last = refl })) .either);
+        (recovers-both (λ (x : List ℕ). (x ≡ b .kept) ⊎ (x ≡ w)) (toldMark (logs b w k) v) a (told-both (λ (x : List ℕ). (x ≡ b .kept) ⊎ (x ≡ w)) (logs b w k) (record { kept = inl refl; logged = inr refl }) v) .kept);
     halfwayClear = λ e z. rw (committing-mark b n v w k e, z) (kept-clear (toldMark (logs b w k) 0) a refl);
     halfwaySet = λ e z. rw (committing-mark b n v w k e, z) (recovers-same w (toldMark (logs b w k) 165) a refl refl);
   }

@@ -5,6 +5,8 @@ use Prim.Native.Nat.{ℕ}
 use native.Mathlib.Omega.{arith}
 use mathlib.Core.List.{List, [], _∷_, _++_}
 use mathlib.Core.Option.{Option, none, some}
+use lib.Dec.{eqb}
+use borrow.Author.Tests.{eqb-false}
 use Rattle.wire.specs.Bytes.{pick}
 use Rattle.wire.specs.Cases.{by-test}
 use Rattle.wire.specs.All.{All, more}
@@ -91,6 +93,18 @@ pub passes-both : (gs rs : List Rule) → refusal (gs ++ rs) ≡ none → (refus
 passes-both gs rs e = by-refusal gs
     (λ n q. let f : some n ≡ none = sym (refused-before gs rs n q) ∙ e in let z : _≡_ {A = ℕ} 0 1 = cc in absurd (omega arith))
     (λ q. (q, sym (passed-both gs rs q) ∙ e))
+
+-- a number that no other rule has is told exactly where its own is the first to apply
+module _ (gs : List Rule) (n : ℕ) (b : Bool) (us : List Rule) where
+  pub refused-first : refusal gs ≡ none → b ≡ true → refusal (gs ++ (rule n b ∷ us)) ≡ some n
+  refused-first p e = passed-both gs (rule n b ∷ us) p ∙ refused-here n b us e
+
+  pub refused-only : All (λ (m : ℕ). eqb m n ≡ false) (numbers gs) → All (λ (m : ℕ). eqb m n ≡ false) (numbers us) → refusal (gs ++ (rule n b ∷ us)) ≡ some n → (refusal gs ≡ none) × (b ≡ true)
+  refused-only before behind e = by-refusal gs
+      (λ m q. let f : some m ≡ some n = sym (refused-before gs (rule n b ∷ us) m q) ∙ e in let z : m ≡ n = cc in absurd (eqb-false m n (refused-among gs m before q) z))
+      (λ q. by-test b
+      (λ t. (q, t))
+      (λ t. absurd (eqb-false n n (refused-among us n behind (sym (passed-one n b us t) ∙ sym (passed-both gs (rule n b ∷ us) q) ∙ e)) refl)))
 
 -- ---- calls
 

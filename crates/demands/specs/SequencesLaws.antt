@@ -1,0 +1,128 @@
+-- What each edit keeps, a sequence of edits keeps, and so do turns at an image, wherever their commits and recoveries are cut and caught.
+use mathlib.Core.Path.{_≡_, refl, sym, ap, _∙_, subst}
+use mathlib.Core.Bool.{true}
+use mathlib.Core.Option.{none}
+use mathlib.Core.List.{List, [], _∷_}
+use Prim.Native.Nat.{ℕ, _≤_}
+use native.Mathlib.Omega.{arith}
+use Rattle.wire.specs.Cases.{by-eq}
+use Rattle.wire.specs.All.{All, none as nothing, more, all-append}
+use Rattle.wire.specs.Rules.{Rule, left}
+use Rattle.wire.specs.RulesLaws.{by-refusal, first-refused, first-passed, passes-both}
+use Rattle.records.specs.declared.Record.{Record}
+use Rattle.redo.specs.Image.{capacity, mark, home, headOk}
+use Rattle.log.specs.Book.{Call, commit, recover, Book, start, seen, final, next}
+use Rattle.log.specs.BookLaws.{Both, recover-both, commit-both}
+use Rattle.log.specs.Holds.{Holds}
+use Rattle.log.specs.Steps.{step}
+use Rattle.log.specs.Claim.{Starts, begins, stands-of}
+use Rattle.layout.specs.PermLaws.{all-left, all-right}
+use Rattle.home.specs.declared.Answer.{Answer}
+use Rattle.home.specs.declared.Answer.the-variants.{Count, Refused}
+use Rattle.home.specs.Sound.{sound, listOf}
+use Rattle.gates.specs.declared.Of.the-variants.{Image}
+use Rattle.gates.specs.Gates.{gateRules}
+use Rattle.gates.specs.GatesLaws.{image-open}
+use Rattle.index.specs.Calls.{beginCall}
+use Rattle.demands.specs.Effects.{Effect, put-effect, delete-effect, set-effect, drop-effect}
+use Rattle.demands.specs.Sequences.{Edit, put, delete, setMinutes, dropTag, editCall, answerOf, made, tagOf, listBy, Ranged, Event, events, through, Turn, turn, recovery, eventsAt, callsAt, turned, afterTurns, allEvents}
+
+-- ---- an edit
+
+pub edit-effect : (e : Edit) → Ranged e → (w : List ℕ) → Effect w (made e w) (tagOf e) (listBy e (listOf w (tagOf e))) (answerOf e w)
+unfolding editCall tagOf listBy
+edit-effect (put by t r) (g, f) w = put-effect w t g by r f
+edit-effect (delete t k) g w = delete-effect w t g k
+edit-effect (setMinutes t k m) (g, f) w = set-effect w t g k m f
+edit-effect (dropTag t) g w = drop-effect w t g
+
+-- a sound workspace stays sound
+effect-sound : (w w' : List ℕ) (t : ℕ) (rs : List Record) (a : Answer) → Effect w w' t rs a → sound w ≡ true → sound w' ≡ true
+effect-sound w w' t rs (Count n) d s = d .fine
+effect-sound w w' t rs (Refused n) d s = ap sound d ∙ s
+
+pub edit-sound : (e : Edit) → Ranged e → (w : List ℕ) → sound w ≡ true → sound (made e w) ≡ true
+edit-sound e g w = effect-sound w (made e w) (tagOf e) (listBy e (listOf w (tagOf e))) (answerOf e w) (edit-effect e g w)
+
+-- a tag's list is as before, or the edit is one of this tag, is done, and has made it
+pub by-list : (G : List Record → Type 0) (e : Edit) → Ranged e → (w : List ℕ) (t : ℕ) → G (listOf w t) → ((n : ℕ) → tagOf e ≡ t → answerOf e w ≡ Count n → G (listBy e (listOf w t))) → G (listOf (made e w) t)
+by-list G e g w t same done = go (answerOf e w) refl (edit-effect e g w)
+  where
+    go : (a : Answer) → answerOf e w ≡ a → Effect w (made e w) (tagOf e) (listBy e (listOf w (tagOf e))) a → G (listOf (made e w) t)
+    go (Refused n) q d = subst (λ (x : List ℕ). G (listOf x t)) (sym d) same
+    go (Count n) q d = by-eq (tagOf e) t
+        (λ i. subst G (sym (ap (listOf (made e w)) (sym i) ∙ d .list ∙ ap (λ (u : ℕ). listBy e (listOf w u)) i)) (done n i q))
+        (λ i. subst G (sym (d .others t (λ z. i (sym z)))) same)
+
+-- ---- what edits keep, under a condition on each of them
+
+module _ (P : List ℕ → Type 0) (C : Event → Type 0) (keeps : (v : Event) → P (v .space) → C v → P (made (v .edit) (v .space))) where
+  abbrev Meets : Event → Type 0
+  Meets v = P (v .space) × C v
+
+  -- it holds at each edit, and after the last
+  pub events-keep : (es : List Edit) (w : List ℕ) → P w → All C (events es w) → All Meets (events es w) × P (through es w)
+  unfolding events through
+  events-keep [] w p c = (nothing, p)
+  events-keep (e ∷ es) w p (more c cs) =
+      let r = events-keep es (made e w) (keeps (record { edit = e; space = w }) p c) cs in
+      (more (p, c) (r .0), r .1)
+
+  -- in a list of turns that started on l₀, with the book's help
+  record Goes (l₀ : List ℕ) (u : Turn) (l : List ℕ) : Type 0 where
+    met : All Meets (eventsAt u l)
+    book : Book
+    holds : Holds sound l₀ (turned u l) book
+    both : Both P book
+
+  module _ (l₀ : List ℕ) (ok : headOk l₀ ≡ true) where
+    clear-home : (l : List ℕ) (b : Book) → Holds sound l₀ l b → Both P b → mark l ≡ 0 → P (home l)
+    clear-home l b h p m = subst P (sym (stands-of l b (h .state) (λ z. omega (arith, m, h .marks, z)))) (p .kept)
+
+    goes : (u : Turn) (l : List ℕ) (b : Book) → Holds sound l₀ l b → Both P b → All C (eventsAt u l) → Goes l₀ u l
+    unfolding eventsAt callsAt beginCall final
+    goes (recovery n v) l b h p c = record {
+      met = nothing;
+      book = next sound (capacity l₀) b (recover n v);
+      holds = step sound l₀ ok l b h (recover n v) .goes-on;
+      both = recover-both sound (capacity l₀) P b p n v;
+    }
+    goes (turn w es n v) l b h p c = by-refusal rs
+        (λ r q.
+        record {
+          met = subst (All Meets) (sym (first-refused (λ m. []) rs r (events es begun) q)) nothing;
+          book = b;
+          holds = subst (λ (cs : List Call). Holds sound l₀ (final sound cs l) b) (sym (first-refused (λ m. []) rs r (commit (through es begun) n v ∷ []) q)) h;
+          both = p;
+        })
+        (λ q.
+        let o = image-open l (passes-both (gateRules Image l) _ q .0) in
+        let is : events es begun ≡ eventsAt (turn w es n v) l = sym (first-passed (λ m. []) rs (events es begun) q) in
+        let same : home l ≡ begun = sym (first-passed (λ m. w) rs (home l) q) in
+        let k = events-keep es begun (subst P same (clear-home l b h p (o .clear))) (subst (All C) (sym is) c) in
+        let b' : Book = next sound (capacity l₀) b (commit (through es begun) n v) in
+        record {
+          met = subst (All Meets) is (k .0);
+          book = b';
+          holds = subst (λ (cs : List Call). Holds sound l₀ (final sound cs l) b') (sym (first-passed (λ m. []) rs (commit (through es begun) n v ∷ []) q)) (step sound l₀ ok l b h (commit (through es begun) n v) .goes-on);
+          both = commit-both sound (capacity l₀) P b p n v (through es begun) (k .1);
+        })
+      where
+        rs : List Rule
+        rs = beginCall l w .rules
+
+        begun : List ℕ
+        begun = left (beginCall l w) w
+
+    turns-on : (us : List Turn) (l : List ℕ) (b : Book) → Holds sound l₀ l b → Both P b → All C (allEvents us l) → All Meets (allEvents us l) × (mark (afterTurns us l) ≡ 0 → P (home (afterTurns us l)))
+    unfolding allEvents afterTurns
+    turns-on [] l b h p c = (nothing, clear-home l b h p)
+    turns-on (u ∷ us) l b h p c =
+        let g : Goes l₀ u l = goes u l b h p (all-left C (eventsAt u l) (allEvents us (turned u l)) c) in
+        let r = turns-on us (turned u l) (g .book) (g .holds) (g .both) (all-right C (eventsAt u l) (allEvents us (turned u l)) c) in
+        (all-append (g .met) (r .0), r .1)
+
+  -- from a sound image with mark 0 it holds at each edit, and of home as soon as the mark is 0 again
+  pub turns-keep : (l : List ℕ) → Starts sound l → P (home l) → (us : List Turn) → All C (allEvents us l) → All Meets (allEvents us l) × (mark (afterTurns us l) ≡ 0 → P (home (afterTurns us l)))
+  unfolding start
+  turns-keep l s p us c = turns-on l (s .head) us l (start (home l)) (begins sound l s) (record { kept = p; logged = p }) c
