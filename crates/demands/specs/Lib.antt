@@ -9,3 +9,4 @@ pub mod Afresh
 pub mod Sequences
 pub mod SequencesLaws
 pub mod Pit
+pub mod PitExamples
