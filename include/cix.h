@@ -35,6 +35,8 @@ extern "C" {
 
 enum cix_kind { CIX_DONE = 0, CIX_CUT = 1, CIX_REFUSED = 2 };
 
+/* Where several apply, the one that comes first after `Refused:` at the call is given. That goes by place,
+ * not by size: 17 stands after 8 and before 10. There is no 16. */
 enum cix_refusal {
     CIX_BAD_HEAD = 1,        /* the image's head or length is not right */
     CIX_BAD_MARK = 2,        /* no longer given */
@@ -50,7 +52,8 @@ enum cix_refusal {
     CIX_NO_ROOM = 12,        /* put: all blocks together would not fit */
     CIX_LOG_SHORT = 13,      /* commit: more pages differ than the log has entries */
     CIX_SIZES = 14,          /* format: sizes or step code out of range, or the length does not match */
-    CIX_OUTPUT_SHORT = 15    /* the output is shorter than the records to write */
+    CIX_OUTPUT_SHORT = 15,   /* the output is shorter than the records to write */
+    CIX_PIT_FULL = 17        /* put from the pit: the list has 64 calls or more */
 };
 
 /* Step codes: how a block's capacity grows when its list does. By 31/20 fewer blocks move than by 25/21,
@@ -92,6 +95,11 @@ uint64_t cix_begin(const uint8_t *image, size_t image_len, uint8_t *space, size_
  * Refused: 6, 7, 8, 10, 11, 12. */
 uint64_t cix_put(uint8_t *space, size_t space_len, uint32_t tag, uint8_t level, uint32_t second,
                  uint16_t phone, uint8_t minutes);
+
+/* The same from the pit, which puts to lists of fewer than 64 records only, whoever put these.
+ * Refused: 6, 7, 8, 17, 11, 12. */
+uint64_t cix_put_pit(uint8_t *space, size_t space_len, uint32_t tag, uint8_t level, uint32_t second,
+                     uint16_t phone, uint8_t minutes);
 
 /* Deletes the record with this level, second and phone. Done, with the list's count afterwards.
  * Refused: 6, 7, 9. */

@@ -18,6 +18,15 @@ extern "C" {
         phone: u16,
         minutes: u8,
     ) -> u64;
+    pub fn cix_put_pit(
+        space: *mut u8,
+        space_len: usize,
+        tag: u32,
+        level: u8,
+        second: u32,
+        phone: u16,
+        minutes: u8,
+    ) -> u64;
     pub fn cix_delete(
         space: *mut u8,
         space_len: usize,

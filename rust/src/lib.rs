@@ -91,9 +91,10 @@ pub enum Refusal {
     LogShort = 13,
     Sizes = 14,
     OutputShort = 15,
+    PitFull = 17,
 }
 
-const REFUSALS: [(Refusal, &str); 15] = [
+const REFUSALS: [(Refusal, &str); 16] = [
     (Refusal::BadHead, "the image's head or length is not right"),
     (Refusal::BadMark, "no longer given"),
     (Refusal::Unrecovered, "the image's mark is not 0: recover first"),
@@ -109,10 +110,15 @@ const REFUSALS: [(Refusal, &str); 15] = [
     (Refusal::LogShort, "more pages differ than the log has entries"),
     (Refusal::Sizes, "sizes or step code out of range, or the length does not match"),
     (Refusal::OutputShort, "the output is shorter than the records to write"),
+    (Refusal::PitFull, "the list has 64 calls or more"),
 ];
 
+fn refusal(number: u32) -> &'static (Refusal, &'static str) {
+    REFUSALS.iter().find(|r| r.0 as u32 == number).unwrap()
+}
+
 impl Refusal {
-    /// Its number, 1 to 15.
+    /// Its number, 1 to 15 or 17.
     pub fn number(self) -> u8 {
         self as u8
     }
@@ -120,7 +126,7 @@ impl Refusal {
 
 impl fmt::Display for Refusal {
     fn fmt(&self, f: &mut fmt::Formatter) -> fmt::Result {
-        f.write_str(REFUSALS[*self as usize - 1].1)
+        f.write_str(refusal(*self as u32).1)
     }
 }
 
@@ -142,7 +148,7 @@ fn stored(answer: u64) -> Result<Stored> {
     match answer >> 32 {
         0 => Ok(Stored::Done(number)),
         1 => Ok(Stored::Cut(number)),
-        _ => Err(REFUSALS[number as usize - 1].0),
+        _ => Err(refusal(number).0),
     }
 }
 
@@ -221,6 +227,45 @@ pub fn begin(image: &[u8], space: &mut [u8]) -> Result<()> {
 pub fn put(space: &mut [u8], tag: u32, r: Record) -> Result<u32> {
     counted(unsafe {
         ffi::cix_put(space.as_mut_ptr(), space.len(), tag, r.level, r.second, r.phone, r.minutes)
+    })
+}
+
+/// Puts a record from the pit: as [`put`], but only to a list of fewer than 64 records, whoever put
+/// these. With 64 or more it is [`Refusal::PitFull`], for a call that is not [`Refusal::Listed`].
+///
+/// ```
+/// use cix::{Record, Refusal};
+///
+/// let mut space = vec![0; cix::space_bytes(12)];
+/// let call = |second| Record { level: 1, second, phone: 9, minutes: 0 };
+/// for n in 1..=64 {
+///     assert_eq!(cix::put_pit(&mut space, 7, call(n)), Ok(n));
+/// }
+/// assert_eq!(cix::put_pit(&mut space, 7, call(65)), Err(Refusal::PitFull));
+/// assert_eq!(cix::put_pit(&mut space, 7, call(64)), Err(Refusal::Listed));
+/// for n in 65..=70 {
+///     assert_eq!(cix::put(&mut space, 7, call(n)), Ok(n)); // the desk goes on
+/// }
+/// for n in 1..=7 {
+///     assert_eq!(cix::put_pit(&mut space, 7, call(0)), Err(Refusal::PitFull));
+///     cix::delete(&mut space, 7, call(n))?;
+/// }
+/// assert_eq!(cix::put_pit(&mut space, 7, call(0)), Ok(64)); // under 64 again
+/// assert_eq!(Refusal::PitFull.number(), 17);
+/// assert_eq!(Refusal::PitFull.to_string(), "the list has 64 calls or more");
+/// # Ok::<(), Refusal>(())
+/// ```
+pub fn put_pit(space: &mut [u8], tag: u32, r: Record) -> Result<u32> {
+    counted(unsafe {
+        ffi::cix_put_pit(
+            space.as_mut_ptr(),
+            space.len(),
+            tag,
+            r.level,
+            r.second,
+            r.phone,
+            r.minutes,
+        )
     })
 }
 
