@@ -1,5 +1,6 @@
 /* Calls every function of cix.h: on no bytes at all, with lengths that are not true, through the
- * specification's bench cases, for ranks, where all zones are laid out afresh, and with the coarse step. */
+ * specification's bench cases, for ranks, from the pit, where all zones are laid out afresh, and with the
+ * coarse step. */
 #include "cix.h"
 #include <stdio.h>
 #include <stdlib.h>
@@ -36,6 +37,7 @@ static void no_bytes(void) {
     REFUSED(cix_format(NULL, 0, 1, 1, CIX_STEP_FINE, CIX_ALL), CIX_SIZES);
     REFUSED(cix_begin(NULL, 0, NULL, 0), CIX_BAD_HEAD);
     REFUSED(cix_put(NULL, 0, 7, 1, 2, 3, 4), CIX_SPACE_LENGTH);
+    REFUSED(cix_put_pit(NULL, 0, 7, 1, 2, 3, 4), CIX_SPACE_LENGTH);
     REFUSED(cix_delete(NULL, 0, 7, 1, 2, 3), CIX_SPACE_LENGTH);
     REFUSED(cix_set_minutes(NULL, 0, 7, 1, 2, 3, 4), CIX_SPACE_LENGTH);
     REFUSED(cix_drop_tag(NULL, 0, 7), CIX_SPACE_LENGTH);
@@ -65,8 +67,10 @@ static void short_lengths(void) {
     for (size_t n = 0; n < sizeof space; n++) {
         REFUSED(cix_begin(IMAGE, space, n), CIX_SPACE_LENGTH);
         REFUSED(cix_commit(IMAGE, space, n, CIX_ALL), CIX_SPACE_LENGTH);
-        if (n != CIX_SPACE_BYTES(1))
+        if (n != CIX_SPACE_BYTES(1)) {
             REFUSED(cix_put(space, n, 7, 0, 0, 0, 0), CIX_SPACE_LENGTH);
+            REFUSED(cix_put_pit(space, n, 7, 0, 0, 0, 0), CIX_SPACE_LENGTH);
+        }
     }
 }
 
@@ -90,6 +94,7 @@ static void long_lengths(void) {
         DONE(cix_show_image(i, n, 7), 0);
         REFUSED(cix_either_image(i, n, 7, 9, out, 8), CIX_BAD_HEAD);
         REFUSED(cix_put(s, m, 7, 0, 0, 0, 0), CIX_SPACE_LENGTH);
+        REFUSED(cix_put_pit(s, m, 7, 0, 0, 0, 0), CIX_SPACE_LENGTH);
         REFUSED(cix_count_space(s, m, 7), CIX_SPACE_LENGTH);
         REFUSED(cix_rank_space(s, m, 7, 1, 2, 3), CIX_SPACE_LENGTH);
         DONE(cix_either_space(s, sizeof space, 7, 9, out, SIZE_MAX - j), 0);
@@ -193,6 +198,28 @@ static void ranks(void) {
     DONE(cix_rank_image(IMAGE, 7, 1, 100, 9), 3);
 }
 
+/* A list of 64 records is closed to the pit until it has fewer. Its block takes 71 of the 72 cells. */
+static void pit(void) {
+    uint8_t lists[CIX_SPACE_BYTES(9)] = {0}, before[sizeof lists];
+    for (uint32_t i = 1; i <= 64; i++)
+        DONE(cix_put_pit(lists, sizeof lists, 7, 1, 100 + i, 9, 0), i);
+    memcpy(before, lists, sizeof lists);
+    REFUSED(cix_put_pit(lists, sizeof lists, 7, 1, 100, 9, 0), CIX_PIT_FULL);
+    REFUSED(cix_put_pit(lists, sizeof lists, 7, 1, 101, 9, 5), CIX_LISTED);
+    REFUSED(cix_put_pit(lists, sizeof lists, 9, 1, 100, 9, 0), CIX_NO_ROOM);
+    check("workspace", memcmp(before, lists, sizeof lists), 0, __LINE__);
+    for (uint32_t i = 65; i <= 70; i++)
+        DONE(cix_put(lists, sizeof lists, 7, 1, 100 + i, 9, 0), i);
+    REFUSED(cix_put(lists, sizeof lists, 7, 1, 100, 9, 0), CIX_NO_ROOM);
+    for (uint32_t i = 70; i >= 64; i--) {
+        REFUSED(cix_put_pit(lists, sizeof lists, 7, 1, 100, 9, 0), CIX_PIT_FULL);
+        DONE(cix_delete(lists, sizeof lists, 7, 1, 100 + i, 9), i - 1);
+    }
+    DONE(cix_put_pit(lists, sizeof lists, 7, 1, 100, 9, 0), 64);
+    lists[122] = 2;
+    REFUSED(cix_put_pit(lists, sizeof lists, 7, 1, 99, 9, 0), CIX_UNSOUND_SPACE);
+}
+
 /* A commit cut in the middle of its mark, which then holds neither 0 nor 165. */
 static void spoiled_mark(void) {
     DONE(cix_format(IMAGE, ENTRIES, PAGES, CIX_STEP_FINE, CIX_ALL), sizeof image + 1);
@@ -287,6 +314,7 @@ int main(void) {
     merges();
     cuts();
     ranks();
+    pit();
     spoiled_mark();
     laid_afresh();
     no_codes();

@@ -3,7 +3,7 @@
 use crate::book::changed;
 use crate::caught::{cuts, Found};
 use crate::model::{Home, Rec, MARKED};
-use crate::pair::{dictionary, Pair, Told};
+use crate::pair::{dictionary, Pair, Terminal, Told};
 use crate::random::Random;
 use crate::steps::CAPACITIES;
 use crate::Tally;
@@ -21,13 +21,13 @@ enum Put {
 pub fn refusal(tally: &mut Tally, call: impl FnOnce(&mut Tally)) -> Option<usize> {
     let before = tally.refused;
     call(tally);
-    (1..16).find(|&n| tally.refused[n] > before[n])
+    (1..before.len()).find(|&n| tally.refused[n] > before[n])
 }
 
 /// Puts a record. The lists of other tags must still read the same, and a refusal changes no byte.
-fn put(p: &mut Pair, tag: u32, r: Rec, tally: &mut Tally) -> Put {
+fn put(p: &mut Pair, by: Terminal, tag: u32, r: Rec, tally: &mut Tally) -> Put {
     let before = p.space.clone();
-    let refused = refusal(tally, |t| p.put(tag, r, t));
+    let refused = refusal(tally, |t| p.put_by(by, tag, r, t));
     if let Some(n) = refused {
         assert!(p.space == before, "a refused put changed a byte");
         return Put::Refused(n);
@@ -54,7 +54,7 @@ fn nth(n: u32) -> Rec {
 
 /// Puts one more record to a tag's list.
 fn more(p: &mut Pair, tag: u32, tally: &mut Tally) -> Put {
-    put(p, tag, nth(cix::count_space(&p.space, tag).unwrap() + 1), tally)
+    put(p, Terminal::Desk, tag, nth(cix::count_space(&p.space, tag).unwrap() + 1), tally)
 }
 
 /// Puts records until a tag's list has so many.
@@ -254,7 +254,7 @@ fn one_area(rng: &mut Random, tally: &mut Tally) -> u64 {
                 let mut after = lengths.clone();
                 *after.entry(tag).or_insert(0) += 1;
                 let fits = needed(step, &after) <= 8 * pages as usize;
-                match put(&mut p, tag, rng.record(40), tally) {
+                match put(&mut p, rng.terminal(), tag, rng.record(40), tally) {
                     Put::Refused(8) => continue,
                     Put::Refused(12) => assert!(!fits, "12, though all blocks together would fit"),
                     Put::Refused(n) => panic!("a put is refused with {n}"),

@@ -116,7 +116,7 @@ pub fn list(rng: &mut Random, tally: &mut Tally) {
     let mut p = Pair::formatted(entries, pages, rng.below(2), tally);
     p.begin(tally);
     for _ in 0..rng.below(40) {
-        p.put(rng.tag(6), rng.record(20), tally);
+        p.put_by(rng.terminal(), rng.tag(6), rng.record(20), tally);
     }
     let at = home_at(&p.image);
     p.image[at..].copy_from_slice(&p.space);

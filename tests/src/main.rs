@@ -9,13 +9,14 @@ mod input;
 mod lines;
 mod model;
 mod pair;
+mod pit;
 mod random;
 mod ranks;
 mod spoiled;
 mod steps;
 
 use model::Of;
-use pair::{Pair, Told};
+use pair::{Pair, Terminal, Told};
 use random::Random;
 use std::time::{Instant, SystemTime, UNIX_EPOCH};
 
@@ -41,6 +42,9 @@ fn main() {
     ranks::bounds(&mut tally);
     let (done, refused) = ranks::foretold(calls / 20, &mut rng, &mut tally);
     println!("ranks: {done} puts stand at the place foretold, {refused} are refused, and all ranks are as foretold");
+    pit::cases(&mut tally);
+    let closed = pit::turns(calls / 200, &mut rng, &mut tally);
+    println!("turns of desk and pit: {closed} puts from the pit meet 17, and only the desk goes above 64");
     afresh::cases(&mut tally);
     let laid = afresh::nearly_full(calls / 10, &mut rng, &mut tally);
     println!("nearly full areas: {laid} puts laid all zones out afresh, 12 only where they do not fit");
@@ -57,6 +61,7 @@ fn main() {
         steps::damage(&mut tally);
         steps::bounds(&mut tally);
         (0..2).for_each(|step| limits(step, &mut tally));
+        (0..2).for_each(|step| pit::limits(step, &mut tally));
     }
     let enough = tally.calls + calls;
     while tally.calls < enough {
@@ -70,7 +75,7 @@ fn main() {
     println!("same answers and bytes in all, {:.1} s", start.elapsed().as_secs_f64());
     assert_eq!(tally.refused[2], 0, "refusal 2 is no longer given");
     if calls >= 1_000_000 {
-        assert!((1..=15).all(|n| n == 2 || tally.refused[n] > 0), "a refusal was never met");
+        assert!((1..=15).chain([17]).all(|n| n == 2 || tally.refused[n] > 0), "a refusal was never met");
     }
 }
 
@@ -78,7 +83,7 @@ fn main() {
 pub struct Tally {
     calls: u64,
     images: u64,
-    refused: [u64; 16],
+    refused: [u64; 18],
 }
 
 /// A list of 989 records and one more, 256 tags and one more.
@@ -117,18 +122,26 @@ fn one_image(rng: &mut Random, tally: &mut Tally) {
     p.format(entries, pages, rng.below(2), cix::ALL, tally);
     p.open_book();
     let long = pages > 200 && rng.one_in(2);
-    let tags = if long { 1 } else { [1, 2, 3, 6, 20, 300][rng.below(6) as usize] };
-    let seconds = if long { 3000 } else { [3, 20, 200, 2000][rng.below(4) as usize] };
-    let fill = long || rng.one_in(2);
-    let steps = if pages >= 65 { 3000 } else { 50 + rng.below(400) };
+    let pit = (9..65).contains(&pages) && rng.one_in(2);
+    // One list of hundreds of records, one that the pit keeps at about 64, or any. So many of 16 puts are the desk's.
+    let (tags, seconds, desk) = if long {
+        (1, 3000, 15)
+    } else if pit {
+        (1, [20, 200][rng.below(2) as usize], 2)
+    } else {
+        ([1, 2, 3, 6, 20, 300][rng.below(6) as usize], [3, 20, 200, 2000][rng.below(4) as usize], 8)
+    };
+    let fill = long || !pit && rng.one_in(2);
+    let steps = if pages >= 65 { 3000 } else { 50 + rng.below(if pit { 1000 } else { 400 }) };
     p.begin(tally);
     for _ in 0..steps {
         let tag = rng.tag(tags);
+        let by = if rng.below(16) < desk { Terminal::Desk } else { Terminal::Pit };
         match rng.below(100) {
-            0..=39 => p.put(tag, rng.record(seconds), tally),
+            0..=39 => p.put_by(by, tag, rng.record(seconds), tally),
             40..=54 if !fill => p.delete(tag, rng.listed(&p, tag, seconds), tally),
             55..=59 => p.set_minutes(tag, rng.listed(&p, tag, seconds), tally),
-            60 if !long => p.drop_tag(tag, tally),
+            60 if !long && !pit => p.drop_tag(tag, tally),
             61..=66 => p.commit(rng.allowance(900), rng.told(), tally),
             67..=69 => p.commit(cix::ALL, Told::Stood, tally),
             70..=73 => p.recover(rng.allowance(500), rng.told(), tally),
@@ -137,7 +150,7 @@ fn one_image(rng: &mut Random, tally: &mut Tally) {
             88 => spoiled(&p, rng, tags, seconds, tally),
             89 => shortened(&p, rng, tags, tally),
             90 if pages <= 16 && rng.one_in(2) => p.change_step(tally),
-            _ => p.put(tag, rng.record(seconds), tally),
+            _ => p.put_by(by, tag, rng.record(seconds), tally),
         }
     }
 }
@@ -156,7 +169,7 @@ fn read(p: &mut Pair, rng: &mut Random, tags: u32, seconds: u32, tally: &mut Tal
 fn edit(p: &mut Pair, rng: &mut Random, tags: u32, seconds: u32, tally: &mut Tally) {
     let tag = rng.tag(tags);
     match rng.below(4) {
-        0 => p.put(tag, rng.record(seconds), tally),
+        0 => p.put_by(rng.terminal(), tag, rng.record(seconds), tally),
         1 => p.delete(tag, rng.listed(p, tag, seconds), tally),
         2 => p.set_minutes(tag, rng.listed(p, tag, seconds), tally),
         _ => p.drop_tag(tag, tally),

@@ -339,11 +339,22 @@ fn edit(space: &mut [u8], tag: u32, f: impl Fn(&Home, &mut Vec<Rec>) -> Result<(
     Ok(n)
 }
 
+/// A put from the desk.
 pub fn put(space: &mut [u8], tag: u32, r: Rec) -> Counted {
+    put_below(LONGEST, 10, space, tag, r)
+}
+
+/// A put from the pit, whose display scrolls no further than 64 records.
+pub fn put_pit(space: &mut [u8], tag: u32, r: Rec) -> Counted {
+    put_below(64, 17, space, tag, r)
+}
+
+/// Puts to a list of fewer records than the limit; with as many or more the list is refused as full.
+fn put_below(limit: usize, full: u8, space: &mut [u8], tag: u32, r: Rec) -> Counted {
     edit(space, tag, |home, list| {
         match list.binary_search_by(|x| primary(x).cmp(primary(&r))) {
             Ok(_) => Err(8),
-            Err(_) if list.len() == LONGEST => Err(10),
+            Err(_) if list.len() >= limit => Err(full),
             Err(_) if list.is_empty() && home.tags() == 256 => Err(11),
             Err(i) => Ok(list.insert(i, r)),
         }

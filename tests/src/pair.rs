@@ -21,6 +21,13 @@ pub enum Told {
     Value(u8),
 }
 
+/// Where a call is put from.
+#[derive(Clone, Copy)]
+pub enum Terminal {
+    Desk,
+    Pit,
+}
+
 fn record(r: Rec) -> Record {
     Record::from_bytes(r)
 }
@@ -135,6 +142,17 @@ impl Pair {
 
     pub fn put(&mut self, tag: u32, r: Rec, tally: &mut Tally) {
         self.edit("put", tally, |s| cix::put(s, tag, record(r)), |s| model::put(s, tag, r));
+    }
+
+    pub fn put_pit(&mut self, tag: u32, r: Rec, tally: &mut Tally) {
+        self.edit("put from the pit", tally, |s| cix::put_pit(s, tag, record(r)), |s| model::put_pit(s, tag, r));
+    }
+
+    pub fn put_by(&mut self, by: Terminal, tag: u32, r: Rec, tally: &mut Tally) {
+        match by {
+            Terminal::Desk => self.put(tag, r, tally),
+            Terminal::Pit => self.put_pit(tag, r, tally),
+        }
     }
 
     pub fn delete(&mut self, tag: u32, r: Rec, tally: &mut Tally) {

@@ -1,6 +1,6 @@
 //! Random choices from a seed.
 use crate::model::{Of, Rec, MARKED, STEP};
-use crate::pair::{Pair, Told};
+use crate::pair::{Pair, Terminal, Told};
 
 pub struct Random(u64);
 
@@ -37,6 +37,14 @@ impl Random {
         let minutes = self.next() as u8;
         let phone = if self.one_in(8) { [255, 255] } else { [0, self.below(2) as u8] };
         [[0, 0, 1, 255][self.below(4) as usize], s[0], s[1], s[2], s[3], phone[0], phone[1], minutes]
+    }
+
+    pub fn terminal(&mut self) -> Terminal {
+        if self.one_in(2) {
+            Terminal::Desk
+        } else {
+            Terminal::Pit
+        }
     }
 
     /// A record of the workspace's list with other minutes, mostly.

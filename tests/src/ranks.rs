@@ -3,7 +3,7 @@
 use crate::book::changed;
 use crate::caught::Found;
 use crate::model::{Of, Rec, MARKED};
-use crate::pair::{dictionary, Pair, Told};
+use crate::pair::{dictionary, Pair, Terminal, Told};
 use crate::random::Random;
 use crate::Tally;
 
@@ -55,7 +55,7 @@ pub fn foretold(puts: u64, rng: &mut Random, tally: &mut Tally) -> (u64, u64) {
         let mut p = Pair::begun([1, 2, 16, 60, 200][rng.below(5) as usize], rng.below(2), tally);
         let (tags, seconds) = ([1, 2, 6][rng.below(3) as usize], [3, 20, 2000][rng.below(3) as usize]);
         for _ in 0..1 + rng.below(300) {
-            if put(&mut p, rng.tag(tags), rng.record(seconds), tally) {
+            if put(&mut p, rng.terminal(), rng.tag(tags), rng.record(seconds), tally) {
                 done += 1;
             } else {
                 refused += 1;
@@ -67,10 +67,10 @@ pub fn foretold(puts: u64, rng: &mut Random, tally: &mut Tally) -> (u64, u64) {
 
 /// Puts a record, and answers whether it was done. It stands at the place foretold then. Another call of
 /// the tag has one more before it exactly if it stands behind; other tags' ranks stay.
-fn put(p: &mut Pair, tag: u32, r: Rec, tally: &mut Tally) -> bool {
+fn put(p: &mut Pair, by: Terminal, tag: u32, r: Rec, tally: &mut Tally) -> bool {
     let before = p.clone();
     let place = p.rank(Of::Space, tag, r, tally);
-    p.put(tag, r, tally);
+    p.put_by(by, tag, r, tally);
     assert_eq!(p.rank(Of::Space, tag, r, tally), place, "the number foretold");
     let done = p.space != before.space;
     let (old, new) = (list(&before.space, tag), list(&p.space, tag));

@@ -18,7 +18,7 @@ pub const CAPACITIES: [&[usize]; 2] = [
 ];
 
 /// The n-th record of every list.
-fn nth(n: u32) -> Rec {
+pub fn nth(n: u32) -> Rec {
     let s = n.to_be_bytes();
     [1, s[0], s[1], s[2], s[3], 0, 9, 0]
 }
@@ -99,6 +99,7 @@ fn image_calls(p: &Pair, told: Option<usize>, tally: &mut Tally) {
 fn space_calls(p: &Pair, told: Option<usize>, tally: &mut Tally) {
     let mut refused = |call: &dyn Fn(&mut Pair, &mut Tally)| refusal(tally, |t| call(&mut p.clone(), t));
     assert_eq!(refused(&|p, t| p.put(9, nth(2), t)), told);
+    assert_eq!(refused(&|p, t| p.put_pit(9, nth(2), t)), told);
     assert_eq!(refused(&|p, t| p.delete(7, nth(1), t)), told);
     assert_eq!(refused(&|p, t| p.set_minutes(7, nth(1), t)), told);
     assert_eq!(refused(&|p, t| p.drop_tag(7, t)), told);
