@@ -8,12 +8,12 @@ use lib.Dec.{ltb}
 use lib.ListN.{length}
 use mathlib.Core.Option.{none}
 use Rattle.wire.specs.Cases.{by-test}
-use Rattle.wire.specs.Rules.{Rule, first, refusal, answered, left}
+use Rattle.wire.specs.Rules.{Rule, first, refusal, answered}
 use Rattle.wire.specs.RulesLaws.{by-refusal, first-refused, first-passed, passes-both}
 use Rattle.records.specs.declared.Record.{Record}
 use Rattle.merges.specs.declared.Merge.{Merge}
 use Rattle.merges.specs.declared.Side.the-variants.{First, Shared, Second}
-use Rattle.records.specs.Records.{Fits, key, below, insert, remove, amend}
+use Rattle.records.specs.Records.{key, below}
 use Rattle.records.specs.Order.{many-length}
 use Rattle.merges.specs.Merging.{keep, keeps, merge}
 use Rattle.home.specs.declared.Answer.{Answer}
@@ -24,9 +24,8 @@ use Rattle.gates.specs.Gates.{gateRules, homeIn}
 use Rattle.gates.specs.GatesLaws.{home-fine}
 use Rattle.reads.specs.Reads.{listIn, countIn, rankIn}
 use Rattle.reads.specs.Merges.{mergeIn}
-use Rattle.edits.specs.declared.Terminal.{Terminal}
-use Rattle.index.specs.Calls.{putCall, deleteCall, setCall, dropCall}
-use Rattle.demands.specs.Effects.{Effect, put-effect, delete-effect, set-effect, drop-effect}
+use Rattle.demands.specs.Effects.{Effect, edit-effect}
+use Rattle.demands.specs.Sequences.{Edit, answerOf, made, tagOf, listBy, Ranged}
 use Rattle.cix.specs.PlacesLaws.{list-short}
 
 abbrev pub Low : Answer → Type 0
@@ -39,18 +38,8 @@ low-effect : (w w' : List ℕ) (t : ℕ) (rs : List Record) (a : Answer) → Eff
 low-effect w w' t rs (Count n) d = omega (arith, d .counts, ap length (d .list), list-short w' t (d .fine))
 low-effect w w' t rs (Refused r) d = omega arith
 
-module _ (w : List ℕ) (t : ℕ) (small : t < 4294967296) where
-  pub put-low : (by : Terminal) (r : Record) → Fits r → Low (answered Refused (putCall by w t r))
-  put-low by r f = low-effect w (left (putCall by w t r) w) t (insert r (listOf w t)) (answered Refused (putCall by w t r)) (put-effect w t small by r f)
-
-  pub delete-low : (k : ℕ) → Low (answered Refused (deleteCall w t k))
-  delete-low k = low-effect w (left (deleteCall w t k) w) t (remove k (listOf w t)) (answered Refused (deleteCall w t k)) (delete-effect w t small k)
-
-  pub set-low : (k m : ℕ) → m < 256 → Low (answered Refused (setCall w t k m))
-  set-low k m g = low-effect w (left (setCall w t k m) w) t (amend k m (listOf w t)) (answered Refused (setCall w t k m)) (set-effect w t small k m g)
-
-  pub drop-low : Low (answered Refused (dropCall w t))
-  drop-low = low-effect w (left (dropCall w t) w) t [] (answered Refused (dropCall w t)) (drop-effect w t small)
+pub edit-low : (e : Edit) → Ranged e → (w : List ℕ) → Low (answerOf e w)
+edit-low e g w = low-effect w (made e w) (tagOf e) (listBy e (listOf w (tagOf e))) (answerOf e w) (edit-effect e g w)
 
 -- ---- reads
 

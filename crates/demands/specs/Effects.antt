@@ -19,7 +19,7 @@ use Rattle.home.specs.Layout.{change}
 use Rattle.layout.specs.Cases.{Holds}
 use Rattle.wire.specs.Bytes.{isSome}
 use Rattle.layout.specs.ChangeLaws.{Changed}
-use Rattle.layout.specs.Edits.{Edit, put, delete, setMinutes, dropTag}
+use Rattle.layout.specs.Edits.{Edit as EditBy, put as putBy, delete as deleteBy, setMinutes as setBy, dropTag as dropBy}
 use Rattle.layout.specs.CapacitiesLaws.{rising as rises}
 use Rattle.layout.specs.EditsLaws.{Fine, changed, put-fine, delete-fine, set-fine, drop-fine}
 use Rattle.home.specs.Bytes.{stepOf, decode}
@@ -34,6 +34,7 @@ use Rattle.gates.specs.declared.Of.the-variants.{Space}
 use Rattle.gates.specs.Gates.{gateRules}
 use Rattle.gates.specs.GatesLaws.{space-open}
 use Rattle.index.specs.Calls.{putCall, deleteCall, setCall, dropCall}
+use Rattle.demands.specs.Sequences.{Edit, put, delete, setMinutes, dropTag, editCall, answerOf, made, tagOf, listBy, Ranged}
 
 -- an edit that is not refused: tag t's list is rs, and the answer its record count; every other tag reads as before, and the step code stays
 pub record Done (w w' : List ℕ) (t : ℕ) (rs : List Record) (n : ℕ) : Type 0 where
@@ -71,7 +72,7 @@ module _ (w : List ℕ) (t : ℕ) (small : t < 4294967296) where
       }
 
   -- behind the rules of a workspace
-  effect : (e : Edit) → ((s : sound w ≡ true) → refusal (e .rules) ≡ none → Makes s (e .list))
+  effect : (e : EditBy) → ((s : sound w ≡ true) → refusal (e .rules) ≡ none → Makes s (e .list))
       → Effect w (left (behind (gateRules Space w) (edited w t e)) w) t (e .list) (answered Refused (behind (gateRules Space w) (edited w t e)))
   effect e f = by-refusal rs
       (λ n q. rw (first-refused Refused rs n (c .answer) q, first-refused (λ m. w) rs n (c .bytes) q) refl)
@@ -85,17 +86,25 @@ module _ (w : List ℕ) (t : ℕ) (small : t < 4294967296) where
       rs = gateRules Space w ++ e .rules
 
   pub put-effect : (by : Terminal) (r : Record) → Fits r → Effect w (left (putCall by w t r) w) t (insert r (listOf w t)) (answered Refused (putCall by w t r))
-  unfolding putCall put listOf
+  unfolding putCall putBy listOf
   put-effect by r f = effect (putOf by w t r) (λ s q. put-fine (cells (stepOf w)) (classOf (stepOf w)) (rises (stepOf w)) (8 * pagesOf w) t (decode w) (sound-valid w s) small (limitOf by) (fullOf by) (limit-low by) r f q)
 
   pub delete-effect : (k : ℕ) → Effect w (left (deleteCall w t k) w) t (remove k (listOf w t)) (answered Refused (deleteCall w t k))
-  unfolding deleteCall delete listOf
-  delete-effect k = effect (delete t k (decode w)) (λ s q. delete-fine (cells (stepOf w)) (classOf (stepOf w)) (rises (stepOf w)) (8 * pagesOf w) t (decode w) (sound-valid w s) small k q)
+  unfolding deleteCall deleteBy listOf
+  delete-effect k = effect (deleteBy t k (decode w)) (λ s q. delete-fine (cells (stepOf w)) (classOf (stepOf w)) (rises (stepOf w)) (8 * pagesOf w) t (decode w) (sound-valid w s) small k q)
 
   pub set-effect : (k m : ℕ) → m < 256 → Effect w (left (setCall w t k m) w) t (amend k m (listOf w t)) (answered Refused (setCall w t k m))
-  unfolding setCall setMinutes listOf
-  set-effect k m g = effect (setMinutes t k m (decode w)) (λ s q. set-fine (cells (stepOf w)) (classOf (stepOf w)) (rises (stepOf w)) (8 * pagesOf w) t (decode w) (sound-valid w s) small k m g q)
+  unfolding setCall setBy listOf
+  set-effect k m g = effect (setBy t k m (decode w)) (λ s q. set-fine (cells (stepOf w)) (classOf (stepOf w)) (rises (stepOf w)) (8 * pagesOf w) t (decode w) (sound-valid w s) small k m g q)
 
   pub drop-effect : Effect w (left (dropCall w t) w) t [] (answered Refused (dropCall w t))
-  unfolding dropCall dropTag
-  drop-effect = effect (dropTag t (decode w)) (λ s q. drop-fine (cells (stepOf w)) (classOf (stepOf w)) (rises (stepOf w)) (8 * pagesOf w) t (decode w) (sound-valid w s) small q)
+  unfolding dropCall dropBy
+  drop-effect = effect (dropBy t (decode w)) (λ s q. drop-fine (cells (stepOf w)) (classOf (stepOf w)) (rises (stepOf w)) (8 * pagesOf w) t (decode w) (sound-valid w s) small q)
+
+-- any of them
+pub edit-effect : (e : Edit) → Ranged e → (w : List ℕ) → Effect w (made e w) (tagOf e) (listBy e (listOf w (tagOf e))) (answerOf e w)
+unfolding editCall tagOf listBy
+edit-effect (put by t r) (g, f) w = put-effect w t g by r f
+edit-effect (delete t k) g w = delete-effect w t g k
+edit-effect (setMinutes t k m) (g, f) w = set-effect w t g k m f
+edit-effect (dropTag t) g w = drop-effect w t g

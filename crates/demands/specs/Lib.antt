@@ -8,5 +8,6 @@ pub mod Claim
 pub mod Afresh
 pub mod Sequences
 pub mod SequencesLaws
+pub mod Puts
 pub mod Pit
 pub mod PitExamples

@@ -1,6 +1,6 @@
 -- The pit terminal: its put is the desk's but for 17, and "Both limits hold on the same list in whatever sequence the two work".
 use mathlib.Core.Path.{_≡_, refl, sym, ap, _∙_, subst}
-use mathlib.Core.Bool.{Bool, true, false, not, _&&_}
+use mathlib.Core.Bool.{Bool, true, false}
 use mathlib.Core.Logic.{_≢_, _⊎_, inl, inr}
 use mathlib.Core.Option.{none, some}
 use mathlib.Core.List.{List, [], _∷_, _++_}
@@ -9,22 +9,21 @@ use native.Mathlib.Nat.{le-max-left, le-max-right}
 use native.Mathlib.Omega.{arith}
 use lib.Dec.{leb, eqb}
 use lib.ListN.{length}
-use borrow.Author.Tests.{leb-true, leb-false, le-leb, lt-leb, eq-eqb, eqb-false}
+use borrow.Author.Tests.{le-leb, lt-leb, eq-eqb, eqb-false}
 use Rattle.wire.specs.All.{All, none as nothing, more, all-map}
-use Rattle.wire.specs.Cases.{by-test, never}
-use Rattle.wire.specs.Rules.{Rule, rule, first, refusal, numbers, answered, left}
-use Rattle.wire.specs.RulesLaws.{first-behind, first-refused, by-refusal, refused-among, refused-first, refused-only, passes, passed-one, passed-both, passes-both, unrefused}
+use Rattle.wire.specs.Cases.{by-test, by-lt, never}
+use Rattle.wire.specs.Rules.{Rule, rule, first, refusal, numbers}
+use Rattle.wire.specs.RulesLaws.{first-behind, refused-among, unrefused}
 use Rattle.records.specs.declared.Record.{Record}
-use Rattle.records.specs.Records.{Fits, key, look, held, insert}
+use Rattle.records.specs.Records.{key, look, held}
 use Rattle.log.specs.Claim.{Starts}
-use Rattle.layout.specs.Edits.{put as putEdit}
+use Rattle.layout.specs.Edits.{put as putBy}
 use Rattle.layout.specs.EditsLaws.{length-insert, length-remove, length-amend}
-use Rattle.home.specs.declared.Answer.{Answer}
 use Rattle.home.specs.declared.Answer.the-variants.{Count, Refused}
 use Rattle.home.specs.Sound.{sound, listOf}
 use Rattle.edits.specs.declared.Terminal.{Terminal}
 use Rattle.edits.specs.declared.Terminal.the-variants.{Desk, Pit}
-use Rattle.edits.specs.Edits.{limitOf, fullOf, putOf}
+use Rattle.edits.specs.Edits.{limitOf, fullOf}
 use Rattle.gates.specs.declared.Of.{Of}
 use Rattle.gates.specs.declared.Of.the-variants.{Image, Space}
 use Rattle.gates.specs.Gates.{gateRules, homeIn}
@@ -32,68 +31,21 @@ use Rattle.gates.specs.GatesLaws.{space-open, image-open}
 use Rattle.reads.specs.Reads.{listIn, countIn}
 use Rattle.reads.specs.ReadsLaws.{sound-listed, count-open}
 use Rattle.index.specs.Calls.{putCall}
-use Rattle.demands.specs.Effects.{Done, Effect}
-use Rattle.demands.specs.Lists.{space-opens}
 use Rattle.demands.specs.Refusals.{edit, rulesOf, ofAnswer, refusedWith}
 use Rattle.demands.specs.RefusalsLaws.{refused-exactly}
-use Rattle.demands.specs.Sequences.{Edit, put, delete, setMinutes, dropTag, editCall, answerOf, made, tagOf, listBy, Ranged, Event, events, through, Turn, afterTurns, allEvents}
-use Rattle.demands.specs.SequencesLaws.{edit-effect, edit-sound, by-list, events-keep, turns-keep}
-
--- ---- a put by either terminal
-
--- no other rule of put has the limit's number
-others : (by : Terminal) → All (λ (m : ℕ). eqb m (fullOf by) ≡ false) (6 ∷ 7 ∷ 8 ∷ []) × All (λ (m : ℕ). eqb m (fullOf by) ≡ false) (11 ∷ 12 ∷ [])
-unfolding fullOf
-others Desk = (more refl (more refl (more refl nothing)), more refl (more refl nothing))
-others Pit = (more refl (more refl (more refl nothing)), more refl (more refl nothing))
-
-module _ (by : Terminal) (w : List ℕ) (t : ℕ) (r : Record) where
-  abbrev listed : Bool
-  listed = held (look (key r) (listOf w t))
-
-  -- the list is closed to the terminal, and the call is not in it
-  pub record Closed : Type 0 where
-    pub fine : sound w ≡ true
-    pub new : listed ≡ false
-    pub many : limitOf by ≤ length (listOf w t)
-
-  abbrev before : List Rule
-  before = gateRules Space w ++ (rule 8 listed ∷ [])
-
-  before-passed : sound w ≡ true → listed ≡ false → refusal before ≡ none
-  unfolding first
-  before-passed s e = passed-both (gateRules Space w) (rule 8 listed ∷ []) (space-opens w s) ∙ passed-one 8 listed [] e
-
-  -- "It refuses with 17 a pit put to a list of 64 or more, after 8", and the desk's to one of 989 with 10
-  pub closed-refused : Closed → answerOf (put by t r) w ≡ Refused (fullOf by)
-  unfolding editCall putCall putEdit gateRules listOf
-  closed-refused c = first-refused Refused _ (fullOf by) _ (refused-first before (fullOf by) (leb (limitOf by) (length (listOf w t))) _ (before-passed (c .fine) (c .new)) (le-leb (limitOf by) (length (listOf w t)) (c .many)))
-
-  -- before it a listed call with 8
-  listed-refused : sound w ≡ true → listed ≡ true → answerOf (put by t r) w ≡ Refused 8
-  unfolding editCall putCall putEdit gateRules listOf
-  listed-refused s e = first-refused Refused _ 8 _ (refused-first (gateRules Space w) 8 listed _ (space-opens w s) e)
-
-  -- and none else
-  pub refused-closed : answerOf (put by t r) w ≡ Refused (fullOf by) → Closed
-  unfolding editCall putCall putEdit gateRules listOf numbers refusedWith rulesOf ofAnswer
-  refused-closed e =
-      let q : refusal (editCall (put by t r) w .rules) ≡ some (fullOf by) = sym (refused-exactly (edit (put by t r) w)) ∙ ap ofAnswer e in
-      let o = refused-only before (fullOf by) (leb (limitOf by) (length (listOf w t))) _ (others by .0) (others by .1) q in
-      let p = passes-both (gateRules Space w) (rule 8 listed ∷ []) (o .0) in
-      record { fine = space-open w (p .0); new = passes 8 listed [] (p .1) .0; many = leb-true (limitOf by) (length (listOf w t)) (o .1) }
-
-  -- a put that is done found fewer records than the limit, and answers one more
-  pub done-open : (t < 4294967296) × Fits r → (n : ℕ) → answerOf (put by t r) w ≡ Count n → (n ≡ suc (length (listOf w t))) × (length (listOf w t) < limitOf by)
-  unfolding editCall putCall putEdit tagOf listBy listOf refusedWith rulesOf ofAnswer
-  done-open g n e =
-      let q : refusal (editCall (put by t r) w .rules) ≡ none = sym (refused-exactly (edit (put by t r) w)) ∙ ap ofAnswer e in
-      let d : Done w (made (put by t r) w) t (insert r (listOf w t)) n = subst (Effect w (made (put by t r) w) t (insert r (listOf w t))) e (edit-effect (put by t r) g w) in
-      let a = passes 8 listed _ (passes-both (gateRules Space w) _ q .1) in
-      let b = passes (fullOf by) (leb (limitOf by) (length (listOf w t))) _ (a .1) in
-      (d .counts ∙ length-insert r (listOf w t), leb-false (limitOf by) (length (listOf w t)) (b .0))
+use Rattle.demands.specs.Puts.{Closed, closed-refused, refused-closed, listed-refused, done-open}
+use Rattle.demands.specs.Sequences.{Edit, put, delete, setMinutes, dropTag, editCall, answerOf, made, tagOf, listBy, Ranged, Event, RangedIn, events, through, Turn, afterTurns, allEvents}
+use Rattle.demands.specs.SequencesLaws.{edit-sound, by-list, events-keep, turns-keep}
 
 -- ---- the pit's beside the desk's
+
+-- "after 8 and before 10": with rule 10 behind that of 17 nothing would differ, for a list of 989 has 64
+pub before-ten : {A : Type 0} (f : ℕ → A) (gs us : List Rule) (h : Bool) (n : ℕ) (a : A) → first f (gs ++ (rule 8 h ∷ rule 17 (leb 64 n) ∷ rule 10 (leb 989 n) ∷ us)) a ≡ first f (gs ++ (rule 8 h ∷ rule 17 (leb 64 n) ∷ us)) a
+unfolding first
+before-ten f gs us h n a =
+    first-behind f gs (rule 8 h ∷ rule 17 (leb 64 n) ∷ rule 10 (leb 989 n) ∷ us) a
+    ∙ ap (first f gs) (by-lt n 64 (λ g. rw (lt-leb 989 n (omega arith)) refl) (λ g. rw (le-leb 64 n g) refl))
+    ∙ sym (first-behind f gs (rule 8 h ∷ rule 17 (leb 64 n) ∷ us) a)
 
 module _ (w : List ℕ) (t : ℕ) (r : Record) where
   -- no rule but the limit's differs
@@ -103,7 +55,7 @@ module _ (w : List ℕ) (t : ℕ) (r : Record) where
 
   -- "only to lists of fewer than 64 records": to these it is the desk's, in answer and bytes
   pub pit-open : length (listOf w t) < 64 → (answerOf (put Pit t r) w ≡ answerOf (put Desk t r) w) × (made (put Pit t r) w ≡ made (put Desk t r) w)
-  unfolding editCall putCall putEdit listOf limitOf fullOf
+  unfolding editCall putCall putBy listOf limitOf fullOf
   pit-open g =
       let c : leb 64 (length (listOf w t)) ≡ false = lt-leb 64 (length (listOf w t)) g in
       let d : leb 989 (length (listOf w t)) ≡ false = lt-leb 989 (length (listOf w t)) (omega arith) in
@@ -111,7 +63,7 @@ module _ (w : List ℕ) (t : ℕ) (r : Record) where
 
   -- so it is never refused with 10
   pub pit-never-ten : answerOf (put Pit t r) w ≢ Refused 10
-  unfolding editCall putCall putEdit gateRules fullOf numbers refusedWith rulesOf ofAnswer
+  unfolding editCall putCall putBy gateRules fullOf numbers refusedWith rulesOf ofAnswer
   pit-never-ten e =
       let q : refusal (editCall (put Pit t r) w .rules) ≡ some 10 = sym (refused-exactly (edit (put Pit t r) w)) ∙ ap ofAnswer e in
       eqb-false 10 10 (refused-among {P = λ (m : ℕ). eqb m 10 ≡ false} (editCall (put Pit t r) w .rules) 10 (more refl (more refl (more refl (more refl (more refl (more refl nothing)))))) q) refl
@@ -125,7 +77,8 @@ module _ (w : List ℕ) (t : ℕ) (r : Record) where
 
 -- ---- in whatever sequence
 
--- at each edit: the workspace is sound, so no list is longer than 989; a terminal's put is refused for its limit exactly where the list is closed to it, and one that is done found it open
+-- At each edit the workspace is sound, so that no list is longer than 989. A terminal's put is refused for its limit exactly where the list
+-- is closed to it, and one that is done found it open.
 pub record Limits (v : Event) : Type 0 where
   pub fine : sound (v .space) ≡ true
   pub short : (t : ℕ) → length (listOf (v .space) t) ≤ 989
@@ -133,30 +86,27 @@ pub record Limits (v : Event) : Type 0 where
   pub closed : (by : Terminal) (t : ℕ) (r : Record) → v .edit ≡ put by t r → Closed by (v .space) t r → answerOf (put by t r) (v .space) ≡ Refused (fullOf by)
   pub done : (by : Terminal) (t : ℕ) (r : Record) → v .edit ≡ put by t r → (n : ℕ) → answerOf (put by t r) (v .space) ≡ Count n → (n ≡ suc (length (listOf (v .space) t))) × (length (listOf (v .space) t) < limitOf by)
 
-abbrev InRange : Event → Type 0
-InRange v = Ranged (v .edit)
+abbrev IsSound : List ℕ → Type 0
+IsSound w = sound w ≡ true
 
-abbrev Fine : List ℕ → Type 0
-Fine w = sound w ≡ true
+stays-sound : (v : Event) → IsSound (v .space) → RangedIn v → IsSound (made (v .edit) (v .space))
+stays-sound v s g = edit-sound (v .edit) g (v .space) s
 
-stays-fine : (v : Event) → Fine (v .space) → InRange v → Fine (made (v .edit) (v .space))
-stays-fine v s g = edit-sound (v .edit) g (v .space) s
-
-limits : (v : Event) → Fine (v .space) × InRange v → Limits v
+limits : (v : Event) → IsSound (v .space) × RangedIn v → Limits v
 limits v (s, g) = record {
   fine = s;
   short = λ t. sound-listed (v .space) t s .short;
   refused = λ by t r e. refused-closed by (v .space) t r;
   closed = λ by t r e. closed-refused by (v .space) t r;
-  done = λ by t r e. done-open by (v .space) t r (subst Ranged e g);
+  done = λ by t r e. done-open by (v .space) t r;
 }
 
-pub limits-hold : (w : List ℕ) → sound w ≡ true → (es : List Edit) → All InRange (events es w) → All Limits (events es w)
-limits-hold w s es c = all-map limits (events-keep Fine InRange stays-fine es w s c .0)
+pub limits-hold : (w : List ℕ) → sound w ≡ true → (es : List Edit) → All RangedIn (events es w) → All Limits (events es w)
+limits-hold w s es c = all-map limits (events-keep IsSound RangedIn stays-sound es w s c .0)
 
--- and "where the two meet at the image"
-pub limits-hold-at : (l : List ℕ) → Starts sound l → (us : List Turn) → All InRange (allEvents us l) → All Limits (allEvents us l)
-limits-hold-at l s us c = all-map limits (turns-keep Fine InRange stays-fine l s (s .fine) us c .0)
+-- and where the two meet at the image
+pub limits-hold-at : (l : List ℕ) → Starts sound l → (us : List Turn) → All RangedIn (allEvents us l) → All Limits (allEvents us l)
+limits-hold-at l s us c = all-map limits (turns-keep IsSound RangedIn stays-sound l s (s .fine) us c .0)
 
 -- ---- what a count tells
 
@@ -195,7 +145,7 @@ module _ (t : ℕ) where
   unfolding deskPut tagOf listBy limitOf
   no-longer m g (put Desk u r) w f d n i a h = never (sym d ∙ eq-eqb u t i)
   no-longer m g (put Pit u r) w f d n i a h =
-      let z : length (listOf w t) < 64 = subst (λ (x : ℕ). length (listOf w x) < 64) i (done-open Pit w u r f n a .1) in
+      let z : length (listOf w t) < 64 = subst (λ (x : ℕ). length (listOf w x) < 64) i (done-open Pit w u r n a .1) in
       omega (arith, length-insert r (listOf w t))
   no-longer m g (delete u k) w f d n i a h = omega (arith, length-remove k (listOf w t))
   no-longer m g (setMinutes u k x) w f d n i a h = omega (arith, length-amend k x (listOf w t))

@@ -11,7 +11,7 @@ use Rattle.layout.specs.Capacities.{capacity, cells, classOf}
 use Rattle.layout.specs.Zones.{Zone, empty, from, find, blocks, hasTag, rewritten, place, takeOut, settle, change}
 use Rattle.layout.specs.Sizes.{totalAfter}
 use Rattle.layout.specs.Valid.{valid}
-use Rattle.layout.specs.Edits.{put as putEdit, delete as deleteEdit}
+use Rattle.layout.specs.Edits.{put as putBy, delete as deleteBy}
 use Rattle.home.specs.Bytes.{spots, encode, decode, zonesFrom}
 use Rattle.home.specs.Sound.{sound, sized, listOf}
 use Rattle.home.specs.declared.Answer.{Answer}
@@ -45,7 +45,7 @@ answers es w = map (λ (v : Event). answerOf (v .edit) (v .space)) (events es w)
 
 -- "a list the desk filled to 70 is closed to the pit", to a listed call with 8, and the desk goes on
 seventy : answers (put Pit 7 (call 70) ∷ put Pit 7 (call 69) ∷ put Desk 7 (call 70) ∷ []) (filled 0 70) ≡ Refused 17 ∷ Refused 8 ∷ Count 71 ∷ []
-unfolding answers filled call callsFrom events editCall putCall deleteCall limitOf fullOf gateRules first sized sound listOf valid decode zonesFrom encode spots settled putEdit deleteEdit totalAfter change settle place takeOut rewritten hasTag find blocks classOf capacity cells key look insert remove risingFrom bytesOf recordAt records part over get16 get32 bytes16 bytes32 equal blank
+unfolding answers filled call callsFrom events editCall putCall deleteCall limitOf fullOf gateRules first sized sound listOf valid decode zonesFrom encode spots settled putBy deleteBy totalAfter change settle place takeOut rewritten hasTag find blocks classOf capacity cells key look insert remove risingFrom bytesOf recordAt records part over get16 get32 bytes16 bytes32 equal blank
 seventy = refl
 
 -- the first n calls, deleted from a list
@@ -58,6 +58,6 @@ unfolding less listBy callsFrom call key insert remove
 down = refl
 
 -- "until it is under 64 again"
-sixty-three : answers (put Pit 7 (call 71) ∷ delete 7 (key (call 7)) ∷ put Pit 7 (call 71) ∷ put Pit 7 (call 72) ∷ put Desk 7 (call 72) ∷ []) (filled 7 64) ≡ Refused 17 ∷ Count 63 ∷ Count 64 ∷ Refused 17 ∷ Count 65 ∷ []
-unfolding answers filled call callsFrom events editCall putCall deleteCall limitOf fullOf gateRules first sized sound listOf valid decode zonesFrom encode spots settled putEdit deleteEdit totalAfter change settle place takeOut rewritten hasTag find blocks classOf capacity cells key look insert remove risingFrom bytesOf recordAt records part over get16 get32 bytes16 bytes32 equal blank
+sixty-three : answers (put Pit 7 (call 71) ∷ delete 7 (key (call 7)) ∷ put Pit 7 (call 71) ∷ put Pit 7 (call 72) ∷ []) (filled 7 64) ≡ Refused 17 ∷ Count 63 ∷ Count 64 ∷ Refused 17 ∷ []
+unfolding answers filled call callsFrom events editCall putCall deleteCall limitOf fullOf gateRules first sized sound listOf valid decode zonesFrom encode spots settled putBy deleteBy totalAfter change settle place takeOut rewritten hasTag find blocks classOf capacity cells key look insert remove risingFrom bytesOf recordAt records part over get16 get32 bytes16 bytes32 equal blank
 sixty-three = refl

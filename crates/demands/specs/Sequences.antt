@@ -61,6 +61,9 @@ pub record Event : Type 0 where
   pub edit : Edit
   pub space : List ℕ
 
+abbrev pub RangedIn : Event → Type 0
+RangedIn v = Ranged (v .edit)
+
 unfoldable pub events : List Edit → List ℕ → List Event
 events [] w = []
 events (e ∷ es) w = record { edit = e; space = w } ∷ events es (made e w)

@@ -1,9 +1,8 @@
 -- What each edit keeps, a sequence of edits keeps, and so do turns at an image, wherever their commits and recoveries are cut and caught.
 use mathlib.Core.Path.{_≡_, refl, sym, ap, _∙_, subst}
 use mathlib.Core.Bool.{true}
-use mathlib.Core.Option.{none}
 use mathlib.Core.List.{List, [], _∷_}
-use Prim.Native.Nat.{ℕ, _≤_}
+use Prim.Native.Nat.{ℕ}
 use native.Mathlib.Omega.{arith}
 use Rattle.wire.specs.Cases.{by-eq}
 use Rattle.wire.specs.All.{All, none as nothing, more, all-append}
@@ -11,7 +10,7 @@ use Rattle.wire.specs.Rules.{Rule, left}
 use Rattle.wire.specs.RulesLaws.{by-refusal, first-refused, first-passed, passes-both}
 use Rattle.records.specs.declared.Record.{Record}
 use Rattle.redo.specs.Image.{capacity, mark, home, headOk}
-use Rattle.log.specs.Book.{Call, commit, recover, Book, start, seen, final, next}
+use Rattle.log.specs.Book.{Call, commit, recover, Book, start, final, next}
 use Rattle.log.specs.BookLaws.{Both, recover-both, commit-both}
 use Rattle.log.specs.Holds.{Holds}
 use Rattle.log.specs.Steps.{step}
@@ -24,17 +23,10 @@ use Rattle.gates.specs.declared.Of.the-variants.{Image}
 use Rattle.gates.specs.Gates.{gateRules}
 use Rattle.gates.specs.GatesLaws.{image-open}
 use Rattle.index.specs.Calls.{beginCall}
-use Rattle.demands.specs.Effects.{Effect, put-effect, delete-effect, set-effect, drop-effect}
-use Rattle.demands.specs.Sequences.{Edit, put, delete, setMinutes, dropTag, editCall, answerOf, made, tagOf, listBy, Ranged, Event, events, through, Turn, turn, recovery, eventsAt, callsAt, turned, afterTurns, allEvents}
+use Rattle.demands.specs.Effects.{Effect, edit-effect}
+use Rattle.demands.specs.Sequences.{Edit, answerOf, made, tagOf, listBy, Ranged, Event, events, through, Turn, turn, recovery, eventsAt, callsAt, turned, afterTurns, allEvents}
 
 -- ---- an edit
-
-pub edit-effect : (e : Edit) → Ranged e → (w : List ℕ) → Effect w (made e w) (tagOf e) (listBy e (listOf w (tagOf e))) (answerOf e w)
-unfolding editCall tagOf listBy
-edit-effect (put by t r) (g, f) w = put-effect w t g by r f
-edit-effect (delete t k) g w = delete-effect w t g k
-edit-effect (setMinutes t k m) (g, f) w = set-effect w t g k m f
-edit-effect (dropTag t) g w = drop-effect w t g
 
 -- a sound workspace stays sound
 effect-sound : (w w' : List ℕ) (t : ℕ) (rs : List Record) (a : Answer) → Effect w w' t rs a → sound w ≡ true → sound w' ≡ true
