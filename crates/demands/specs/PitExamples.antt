@@ -1,7 +1,7 @@
 -- The specification's case for the pit, computed from the definitions that the calls' contracts cite: a list of 70, then one of 63.
 use mathlib.Core.Path.{_≡_, refl}
 use mathlib.Core.List.{List, [], _∷_, map}
-use Prim.Native.Nat.{ℕ, zero, suc, _+_, _-_}
+use Prim.Native.Nat.{ℕ, zero, suc, _+_}
 use lib.ListN.{replicate}
 use Rattle.wire.specs.Bytes.{part, over, get16, get32, bytes16, bytes32, equal, blank}
 use Rattle.wire.specs.Rules.{first}
@@ -43,21 +43,15 @@ filled s n = encode 0 11 (zones 14)
 answers : List Edit → List ℕ → List Answer
 answers es w = map (λ (v : Event). answerOf (v .edit) (v .space)) (events es w)
 
--- "a list the desk filled to 70 is closed to the pit", to a listed call with 8, and the desk goes on
-seventy : answers (put Pit 7 (call 70) ∷ put Pit 7 (call 69) ∷ put Desk 7 (call 70) ∷ []) (filled 0 70) ≡ Refused 17 ∷ Refused 8 ∷ Count 71 ∷ []
-unfolding answers filled call callsFrom events editCall putCall deleteCall limitOf fullOf gateRules first sized sound listOf valid decode zonesFrom encode spots settled putBy deleteBy totalAfter change settle place takeOut rewritten hasTag find blocks classOf capacity cells key look insert remove risingFrom bytesOf recordAt records part over get16 get32 bytes16 bytes32 equal blank
-seventy = refl
+-- the calls ds deleted from a list, one after another
+without : List Record → List Record → List Record
+without [] rs = rs
+without (d ∷ ds) rs = without ds (listBy (delete 7 (key d)) rs)
 
--- the first n calls, deleted from a list
-less : ℕ → List Record → List Record
-less zero rs = rs
-less (suc n) rs = less n (listBy (delete 7 (key (call (7 - suc n)))) rs)
-
-down : less 7 (listBy (put Desk 7 (call 70)) (callsFrom 0 70)) ≡ callsFrom 7 64
-unfolding less listBy callsFrom call key insert remove
-down = refl
-
--- "until it is under 64 again"
-sixty-three : answers (put Pit 7 (call 71) ∷ delete 7 (key (call 7)) ∷ put Pit 7 (call 71) ∷ put Pit 7 (call 72) ∷ []) (filled 7 64) ≡ Refused 17 ∷ Count 63 ∷ Count 64 ∷ Refused 17 ∷ []
-unfolding answers filled call callsFrom events editCall putCall deleteCall limitOf fullOf gateRules first sized sound listOf valid decode zonesFrom encode spots settled putBy deleteBy totalAfter change settle place takeOut rewritten hasTag find blocks classOf capacity cells key look insert remove risingFrom bytesOf recordAt records part over get16 get32 bytes16 bytes32 equal blank
-sixty-three = refl
+-- "a list the desk filled to 70 is closed to the pit", to a listed call with 8, and the desk goes on;
+-- seven deletes leave 64 calls, with one more it is "under 64 again", and 64 close it
+case : (answers (put Pit 7 (call 70) ∷ put Pit 7 (call 69) ∷ put Desk 7 (call 70) ∷ []) (filled 0 70) ≡ Refused 17 ∷ Refused 8 ∷ Count 71 ∷ [])
+    × (without (callsFrom 0 7) (listBy (put Desk 7 (call 70)) (callsFrom 0 70)) ≡ callsFrom 7 64)
+    × (answers (put Pit 7 (call 71) ∷ delete 7 (key (call 7)) ∷ put Pit 7 (call 71) ∷ put Pit 7 (call 72) ∷ []) (filled 7 64) ≡ Refused 17 ∷ Count 63 ∷ Count 64 ∷ Refused 17 ∷ [])
+unfolding answers filled without listBy call callsFrom events editCall putCall deleteCall limitOf fullOf gateRules first sized sound listOf valid decode zonesFrom encode spots settled putBy deleteBy totalAfter change settle place takeOut rewritten hasTag find blocks classOf capacity cells key look insert remove risingFrom bytesOf recordAt records part over get16 get32 bytes16 bytes32 equal blank
+case = (refl, refl, refl)
