@@ -229,12 +229,19 @@ module _ (h : List ℕ) (t : ℕ) (s : sound h ≡ true) (no : hasTag t (blocks 
   nothing-listed : length (find t (blocks (decode h))) ≡ 0
   nothing-listed = rw nothing-found
 
-  pub put-tags : (by : Terminal) (r : Record) → get16 h 0 ≡ 256 → Ends h (putIn by h t r) (Refused 11) h
+  -- its list is open to either terminal
+  nothing-closed : (by : Terminal) → leb (limitOf by) 0 ≡ false
+  nothing-closed by = lt-leb (limitOf by) 0 (limit-some by)
+
+  pub new-either : (by : Terminal) (r : Record) → (answered Refused (putIn Desk h t r) ≡ answered Refused (putIn by h t r)) × (left (putIn Desk h t r) h ≡ left (putIn by h t r) h)
   unfolding putBy first
-  put-tags by r e =
-      let few : leb (limitOf by) 0 ≡ false = lt-leb (limitOf by) 0 (limit-some by) in
+  new-either by r = rw (nothing-held (key r), nothing-listed, nothing-closed by, nothing-closed Desk) (refl, refl)
+
+  pub put-tags : (r : Record) → get16 h 0 ≡ 256 → Ends h (putIn Desk h t r) (Refused 11) h
+  unfolding putBy first
+  put-tags r e =
       let g : leb 256 (length (blocks (decode h))) ≡ true = le-leb 256 (length (blocks (decode h))) (omega (arith, sound-tags h s)) in
-      refuses h t (putOf by h t r) 11 (rw (nothing-held (key r), nothing-listed, few, no, g))
+      refuses h t (putOf Desk h t r) 11 (rw (nothing-held (key r), nothing-listed, nothing-closed Desk, no, g))
 
   module _ (small : t < 4294967296) (few : get16 h 0 ≢ 256) (r : Record) (fits : Fits r) (bs : List ℕ) (e : bs ≡ recordBytes (r ∷ [])) where
     fewer : length (blocks (decode h)) < 256
@@ -268,20 +275,19 @@ module _ (h : List ℕ) (t : ℕ) (s : sound h ≡ true) (no : hasTag t (blocks 
     one-listed : Proper (r ∷ [])
     one-listed = record { rising = rising-one r; fits = more fits nothing; short = omega arith }
 
-    module _ (by : Terminal) where
-      new-last : (b : Bool) → isSome (settledIn h t bs) ≡ b → refusal (putOf by h t r .rules) ≡ pick {A = Option ℕ} b none (some 12)
-      new-last b q =
-          let x : isSome (change (stepOf h) (8 * pagesOf h) t (r ∷ []) (decode h)) ≡ leb (totalAfter (stepOf h) t (r ∷ []) (decode h)) (8 * pagesOf h) = exactly (cells (stepOf h)) (classOf (stepOf h)) (rises (stepOf h)) (8 * pagesOf h) t (decode h) (sound-valid h s) small (r ∷ []) one-listed in
-          last (stepOf h) (8 * pagesOf h) (limitOf by) (fullOf by) t r (decode h) (nothing-held (key r)) (omega (arith, nothing-listed, limit-some by)) (rw (no, lt-leb 256 (length (blocks (decode h))) fewer) refl) b
-          (ap (λ (l : List Record). leb (totalAfter (stepOf h) t l (decode h)) (8 * pagesOf h)) list-is ∙ sym x ∙ ap isSome settles ∙ q)
+    new-last : (b : Bool) → isSome (settledIn h t bs) ≡ b → refusal (putOf Desk h t r .rules) ≡ pick {A = Option ℕ} b none (some 12)
+    new-last b q =
+        let x : isSome (change (stepOf h) (8 * pagesOf h) t (r ∷ []) (decode h)) ≡ leb (totalAfter (stepOf h) t (r ∷ []) (decode h)) (8 * pagesOf h) = exactly (cells (stepOf h)) (classOf (stepOf h)) (rises (stepOf h)) (8 * pagesOf h) t (decode h) (sound-valid h s) small (r ∷ []) one-listed in
+        last (stepOf h) (8 * pagesOf h) (limitOf Desk) (fullOf Desk) t r (decode h) (nothing-held (key r)) (omega (arith, nothing-listed, limit-some Desk)) (rw (no, lt-leb 256 (length (blocks (decode h))) fewer) refl) b
+        (ap (λ (l : List Record). leb (totalAfter (stepOf h) t l (decode h)) (8 * pagesOf h)) list-is ∙ sym x ∙ ap isSome settles ∙ q)
 
-      pub new-done : (x : List ℕ) → isSome (settledIn h t bs) ≡ true → x ≡ settled (stepOf h) (pagesOf h) h (settledIn h t bs) → Ends h (putIn by h t r) (Count 1) x
-      unfolding putBy
-      new-done x i y =
-          let d = makes h t (putOf by h t r) 1 (r ∷ []) (new-last true i) list-is refl in
-          (d .0, y ∙ ap (settled (stepOf h) (pagesOf h) h) (sym settles) ∙ d .1)
+    pub new-done : (x : List ℕ) → isSome (settledIn h t bs) ≡ true → x ≡ settled (stepOf h) (pagesOf h) h (settledIn h t bs) → Ends h (putIn Desk h t r) (Count 1) x
+    unfolding putBy
+    new-done x i y =
+        let d = makes h t (putOf Desk h t r) 1 (r ∷ []) (new-last true i) list-is refl in
+        (d .0, y ∙ ap (settled (stepOf h) (pagesOf h) h) (sym settles) ∙ d .1)
 
-      pub new-no-room : (x : List ℕ) → isSome (settledIn h t bs) ≡ false → x ≡ settled (stepOf h) (pagesOf h) h (settledIn h t bs) → Ends h (putIn by h t r) (Refused 12) x
-      new-no-room x i y =
-          let d = refuses h t (putOf by h t r) 12 (new-last false i) in
-          (d .0, y ∙ settled-none (stepOf h) (pagesOf h) h (settledIn h t bs) i ∙ d .1)
+    pub new-no-room : (x : List ℕ) → isSome (settledIn h t bs) ≡ false → x ≡ settled (stepOf h) (pagesOf h) h (settledIn h t bs) → Ends h (putIn Desk h t r) (Refused 12) x
+    new-no-room x i y =
+        let d = refuses h t (putOf Desk h t r) 12 (new-last false i) in
+        (d .0, y ∙ settled-none (stepOf h) (pagesOf h) h (settledIn h t bs) i ∙ d .1)

@@ -107,11 +107,11 @@ fn put_known(home: &mut [u8], by: Terminal, tag: u32, p: usize, n: usize, r: Rec
     }
 }
 
-// Puts a record to a tag that has none.
-fn put_new(home: &mut [u8], by: Terminal, tag: u32, r: Record) -> Answer
+// Puts a record to a tag that has none, which is the same for either terminal.
+fn put_new(home: &mut [u8], tag: u32, r: Record) -> Answer
     requires { ⌜ (sound (now home) ≡ true) × (hasTag tag (blocks (decode (now home))) ≡ false) ⌝ }
-    ensures { λ a. ⌜ a ≡ answered Answer.Refused (putIn by (now (home .entry)) tag r) ⌝ }
-    ensures { λ _. ⌜ now (home .exit) ≡ left (putIn by (now (home .entry)) tag r) (now (home .entry)) ⌝ }
+    ensures { λ a. ⌜ a ≡ answered Answer.Refused (putIn Terminal.Desk (now (home .entry)) tag r) ⌝ }
+    ensures { λ _. ⌜ now (home .exit) ≡ left (putIn Terminal.Desk (now (home .entry)) tag r) (now (home .entry)) ⌝ }
 {
     if wire::get16(home, 0) == 256 {
         return Answer::Refused(11);
@@ -133,7 +133,7 @@ pub fn put(home: &mut [u8], by: Terminal, tag: u32, r: Record) -> Answer
 {
     match block_of(home, tag) {
         TagBlock::Known(p, n) => put_known(home, by, tag, p, n, r),
-        TagBlock::Unknown => put_new(home, by, tag, r),
+        TagBlock::Unknown => put_new(home, tag, r),
     }
 }
 

@@ -1,5 +1,5 @@
 use mathlib.Core.Path.{sym, _∙_}
-use Rattle.edits.specs.EditsLaws.{absent-new}
+use Rattle.edits.specs.EditsLaws.{absent-new, new-either}
 use borrow.Author.Needs.{needs}
 use Rattle.edits.proofs.put.Statement.{statement}
 use Rattle.edits.proofs.put.Tie as tie
@@ -29,7 +29,11 @@ same-length-2 : tie.Need-same-length-2
 same-length-2 c = search needs
 
 returns-2 : tie.Need-returns-2
-returns-2 c = search needs
+returns-2 c =
+    let pre = c .before .before .before .before .before .before .before .before .before .pre in
+    let new = absent-new _ _ pre (sym (c .before .before .before .before .before .before .block-of .ensures) ∙ c .before .before .before .before .enum-told .given .1) in
+    let e = new-either _ _ pre new _ _ in
+    (c .before .before .put-new .ensures .0 ∙ e .0, c .before .before .put-new .ensures .1 ∙ e .1)
 
 pub put-spec : {M : Type 1} → statement M
 put-spec =

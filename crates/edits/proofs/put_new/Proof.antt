@@ -13,7 +13,7 @@ same-length : tie.Need-same-length
 same-length c = search needs
 
 returns : tie.Need-returns
-returns c = put-tags _ _ (c .before .before .before .before .pre .0) (c .before .before .before .before .pre .1) _ _ (sym (c .before .get16 .ensures .0) ∙ c .if1 .taken)
+returns c = put-tags _ _ (c .before .before .before .before .pre .0) (c .before .before .before .before .pre .1) _ (sym (c .before .get16 .ensures .0) ∙ c .if1 .taken)
 
 slice-aggregate-insert : tie.Need-slice-aggregate-insert
 slice-aggregate-insert c = search needs
@@ -31,13 +31,13 @@ same-length-2 : tie.Need-same-length-2
 same-length-2 c = search needs
 
 returns-2 : tie.Need-returns-2
-returns-2 c = new-done _ _ (c .before .before .before .before .before .before .before .before .before .before .before .before .before .pre .0) (c .before .before .before .before .before .before .before .before .before .before .before .before .before .pre .1) (omega arith) (λ q. c .before .before .before .before .before .before .before .before .before .if1 .left (c .before .before .before .before .before .before .before .before .before .before .get16 .ensures .0 ∙ q)) (c .before .before .before .before .before .before .before .before .before .before .before .before .before .args .r) (record { level = omega arith; second = omega arith; phone = omega arith; minutes = omega arith }) _ (c .before .before .before .before .before .before .before .insert .ensures ∙ inserted-alone _ _ refl) _ _ (sym (c .before .before .before .settle .ensures .0) ∙ c .if2 .taken) (c .before .before .before .settle .ensures .1)
+returns-2 c = new-done _ _ (c .before .before .before .before .before .before .before .before .before .before .before .before .before .pre .0) (c .before .before .before .before .before .before .before .before .before .before .before .before .before .pre .1) (omega arith) (λ q. c .before .before .before .before .before .before .before .before .before .if1 .left (c .before .before .before .before .before .before .before .before .before .before .get16 .ensures .0 ∙ q)) (c .before .before .before .before .before .before .before .before .before .before .before .before .before .args .r) (record { level = omega arith; second = omega arith; phone = omega arith; minutes = omega arith }) _ (c .before .before .before .before .before .before .before .insert .ensures ∙ inserted-alone _ _ refl) _ (sym (c .before .before .before .settle .ensures .0) ∙ c .if2 .taken) (c .before .before .before .settle .ensures .1)
 
 same-length-3 : tie.Need-same-length-3
 same-length-3 c = search needs
 
 returns-3 : tie.Need-returns-3
-returns-3 c = new-no-room _ _ (c .before .before .before .before .before .before .before .before .before .before .before .before .before .pre .0) (c .before .before .before .before .before .before .before .before .before .before .before .before .before .pre .1) (omega arith) (λ q. c .before .before .before .before .before .before .before .before .before .if1 .left (c .before .before .before .before .before .before .before .before .before .before .get16 .ensures .0 ∙ q)) (c .before .before .before .before .before .before .before .before .before .before .before .before .before .args .r) (record { level = omega arith; second = omega arith; phone = omega arith; minutes = omega arith }) _ (c .before .before .before .before .before .before .before .insert .ensures ∙ inserted-alone _ _ refl) _ _ (sym (c .before .before .before .settle .ensures .0) ∙ c .if2 .left) (c .before .before .before .settle .ensures .1)
+returns-3 c = new-no-room _ _ (c .before .before .before .before .before .before .before .before .before .before .before .before .before .pre .0) (c .before .before .before .before .before .before .before .before .before .before .before .before .before .pre .1) (omega arith) (λ q. c .before .before .before .before .before .before .before .before .before .if1 .left (c .before .before .before .before .before .before .before .before .before .before .get16 .ensures .0 ∙ q)) (c .before .before .before .before .before .before .before .before .before .before .before .before .before .args .r) (record { level = omega arith; second = omega arith; phone = omega arith; minutes = omega arith }) _ (c .before .before .before .before .before .before .before .insert .ensures ∙ inserted-alone _ _ refl) _ (sym (c .before .before .before .settle .ensures .0) ∙ c .if2 .left) (c .before .before .before .settle .ensures .1)
 
 pub put-new-spec : {M : Type 1} → statement M
 put-new-spec =
