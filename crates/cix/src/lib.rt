@@ -89,7 +89,7 @@ pub extern "C" fn cix_begin(image: &[u8], space: &mut [u8]) -> u64
     of_begun(b)
 }
 
-// Puts a record to a tag's list, by either terminal.
+// Puts a record to a tag's list, from either terminal.
 fn put_by(
     space: &mut [u8],
     by: Terminal,

@@ -24,7 +24,7 @@ copied h w = record { rules = rule 6 (not (eqb (length w) (length h))) ∷ []; a
 unfoldable pub beginCall : List ℕ → List ℕ → Ruled Begun
 beginCall l w = behind (gateRules Image l) (copied (home l) w)
 
--- "Put a record": to a tag's list, by the desk or the pit
+-- "Put a record": to a tag's list, from the desk or from the pit
 unfoldable pub putCall : Terminal → List ℕ → ℕ → Record → Ruled Answer
 putCall by w t r = behind (gateRules Space w) (putIn by w t r)
 
