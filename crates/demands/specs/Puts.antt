@@ -143,3 +143,15 @@ module _ (by : Terminal) (w : List ℕ) (t : ℕ) (r : Record) where
       let a = passes 8 listed _ (passes-both (gateRules Space w) _ q .1) in
       let b = passes (fullOf by) closed _ (a .1) in
       (sym m ∙ length-insert r (listOf w t), leb-false (limitOf by) (length (listOf w t)) (b .0))
+
+-- ---- "The desk still goes to 989"
+
+-- its rules are those of before there was a pit: 8, 10, 11 and 12, behind the workspace's
+pub desk-rules : (w : List ℕ) (t : ℕ) (r : Record) → editCall (put Desk t r) w .rules
+    ≡ gateRules Space w ++ (rule 8 (held (look (key r) (listOf w t)))
+    ∷ rule 10 (leb 989 (length (listOf w t)))
+    ∷ rule 11 (not (hasTag t (blocks (decode w))) && leb 256 (length (blocks (decode w))))
+    ∷ rule 12 (ltb (8 * pagesOf w) (totalAfter (stepOf w) t (insert r (listOf w t)) (decode w)))
+    ∷ [])
+unfolding editCall putCall putBy listOf limitOf fullOf
+desk-rules w t r = refl

@@ -1,20 +1,23 @@
 -- What each edit keeps, a sequence of edits keeps, and so do turns at an image, wherever their commits and recoveries are cut and caught.
 use mathlib.Core.Path.{_≡_, refl, sym, ap, _∙_, subst}
 use mathlib.Core.Bool.{true}
+use mathlib.Core.Option.{none, some}
 use mathlib.Core.List.{List, [], _∷_}
 use Prim.Native.Nat.{ℕ}
 use native.Mathlib.Omega.{arith}
 use Rattle.wire.specs.Cases.{by-eq}
 use Rattle.wire.specs.All.{All, none as nothing, more, all-append}
-use Rattle.wire.specs.Rules.{Rule, left}
+use Rattle.wire.specs.Rules.{Rule, refusal, left}
 use Rattle.wire.specs.RulesLaws.{by-refusal, first-refused, first-passed, passes-both}
 use Rattle.records.specs.declared.Record.{Record}
 use Rattle.redo.specs.Image.{capacity, mark, home, headOk}
-use Rattle.log.specs.Book.{Call, commit, recover, Book, start, final, next}
+use Rattle.log.specs.declared.Outcome.the-variants.{Done as Committed}
+use Rattle.log.specs.Calls.{answer, after, commitPlan}
+use Rattle.log.specs.Book.{Call, commit, recover, allowance, value, planOf, Book, start, seen, final, next}
 use Rattle.log.specs.BookLaws.{Both, recover-both, commit-both}
 use Rattle.log.specs.Holds.{Holds}
 use Rattle.log.specs.Steps.{step}
-use Rattle.log.specs.Claim.{Starts, begins, stands-of}
+use Rattle.log.specs.Claim.{Starts, begins, stands-of, done-uncaught}
 use Rattle.layout.specs.PermLaws.{all-left, all-right}
 use Rattle.home.specs.declared.Answer.{Answer}
 use Rattle.home.specs.declared.Answer.the-variants.{Count, Refused}
@@ -24,6 +27,7 @@ use Rattle.gates.specs.Gates.{gateRules}
 use Rattle.gates.specs.GatesLaws.{image-open}
 use Rattle.index.specs.Calls.{beginCall}
 use Rattle.demands.specs.Effects.{Effect, edit-effect}
+use Rattle.demands.specs.Lists.{ReadsAs, committed-reads}
 use Rattle.demands.specs.Sequences.{Edit, answerOf, made, tagOf, listBy, Ranged, Event, events, through, Turn, turn, recovery, eventsAt, callsAt, turned, afterTurns, allEvents}
 
 -- ---- an edit
@@ -118,3 +122,26 @@ module _ (P : List ℕ → Type 0) (C : Event → Type 0) (keeps : (v : Event) �
   pub turns-keep : (l : List ℕ) → Starts sound l → P (home l) → (us : List Turn) → All C (allEvents us l) → All Meets (allEvents us l) × (mark (afterTurns us l) ≡ 0 → P (home (afterTurns us l)))
   unfolding start
   turns-keep l s p us c = turns-on l (s .head) us l (start (home l)) (begins sound l s) (record { kept = p; logged = p }) c
+
+-- ---- what a turn is
+
+module _ (l w : List ℕ) (es : List Edit) (n v : ℕ) where
+  -- where begin is refused it does nothing
+  pub turn-refused : (r : ℕ) → refusal (beginCall l w .rules) ≡ some r → (eventsAt (turn w es n v) l ≡ []) × (turned (turn w es n v) l ≡ l)
+  unfolding eventsAt callsAt final
+  turn-refused r q = (
+    first-refused (λ m. []) (beginCall l w .rules) r (events es (left (beginCall l w) w)) q,
+    ap (λ (cs : List Call). final sound cs l) (first-refused (λ m. []) (beginCall l w .rules) r (commit (through es (left (beginCall l w) w)) n v ∷ []) q),
+  )
+
+  -- and where its commit is done, the image reads as what its edits made of home
+  pub turn-done : refusal (beginCall l w .rules) ≡ none → (m : ℕ) → answer (commitPlan sound l (through es (home l))) n ≡ Committed m → ReadsAs (turned (turn w es n v) l) (through es (home l))
+  unfolding callsAt beginCall final seen planOf allowance value
+  turn-done q m d =
+      let begun : left (beginCall l w) w ≡ home l = first-passed (λ k. w) (beginCall l w .rules) (home l) q in
+      let calls : callsAt (turn w es n v) l ≡ commit (through es (home l)) n v ∷ [] =
+      first-passed (λ k. []) (beginCall l w .rules) (commit (through es (left (beginCall l w) w)) n v ∷ []) q
+      ∙ ap (λ (x : List ℕ). commit (through es x) n v ∷ []) begun in
+      let leaves : turned (turn w es n v) l ≡ after (commitPlan sound l (through es (home l))) n l =
+      ap (λ (cs : List Call). final sound cs l) calls ∙ done-uncaught (commitPlan sound l (through es (home l))) n m v l d in
+      subst (λ (x : List ℕ). ReadsAs x (through es (home l))) (sym leaves) (committed-reads l (through es (home l)) n m d)
