@@ -7,12 +7,12 @@ use Prim.Native.Nat.{ℕ}
 use native.Mathlib.Omega.{arith}
 use Rattle.wire.specs.Cases.{by-eq}
 use Rattle.wire.specs.All.{All, none as nothing, more, all-append}
-use Rattle.wire.specs.Rules.{Rule, refusal, left}
+use Rattle.wire.specs.Rules.{refusal, left}
 use Rattle.wire.specs.RulesLaws.{by-refusal, first-refused, first-passed, passes-both}
 use Rattle.records.specs.declared.Record.{Record}
 use Rattle.redo.specs.Image.{capacity, mark, home, headOk}
 use Rattle.log.specs.declared.Outcome.the-variants.{Done as Committed}
-use Rattle.log.specs.Calls.{answer, after, commitPlan}
+use Rattle.log.specs.Calls.{answer, commitPlan}
 use Rattle.log.specs.Book.{Call, commit, recover, allowance, value, planOf, Book, start, seen, final, next}
 use Rattle.log.specs.BookLaws.{Both, recover-both, commit-both}
 use Rattle.log.specs.Holds.{Holds}
@@ -50,6 +50,33 @@ by-list G e g w t same done = go (answerOf e w) refl (edit-effect e g w)
         (λ i. subst G (sym (ap (listOf (made e w)) (sym i) ∙ d .list ∙ ap (λ (u : ℕ). listBy e (listOf w u)) i)) (done n i q))
         (λ i. subst G (sym (d .others t (λ z. i (sym z)))) same)
 
+-- ---- a turn
+
+module _ (l w : List ℕ) (es : List Edit) (n v : ℕ) where
+  -- where begin is refused it does nothing
+  pub turn-refused : (r : ℕ) → refusal (beginCall l w .rules) ≡ some r → (eventsAt (turn w es n v) l ≡ []) × (turned (turn w es n v) l ≡ l)
+  unfolding eventsAt callsAt final
+  turn-refused r q = (
+    first-refused (λ m. []) (beginCall l w .rules) r (events es (left (beginCall l w) w)) q,
+    ap (λ (cs : List Call). final sound cs l) (first-refused (λ m. []) (beginCall l w .rules) r (commit (through es (left (beginCall l w) w)) n v ∷ []) q),
+  )
+
+  -- otherwise home is edited, and what that makes is committed
+  pub turn-begun : refusal (beginCall l w .rules) ≡ none → (eventsAt (turn w es n v) l ≡ events es (home l)) × (turned (turn w es n v) l ≡ seen sound (commit (through es (home l)) n v) l .image)
+  unfolding eventsAt callsAt beginCall final
+  turn-begun q =
+      let begun : left (beginCall l w) w ≡ home l = first-passed (λ k. w) (beginCall l w .rules) (home l) q in (
+        first-passed (λ k. []) (beginCall l w .rules) (events es (left (beginCall l w) w)) q ∙ ap (events es) begun,
+        ap (λ (cs : List Call). final sound cs l) (first-passed (λ k. []) (beginCall l w .rules) (commit (through es (left (beginCall l w) w)) n v ∷ []) q)
+            ∙ ap (λ (x : List ℕ). seen sound (commit (through es x) n v) l .image) begun,
+      )
+
+  -- and where the commit is done, the image reads as that
+  pub turn-done : refusal (beginCall l w .rules) ≡ none → (m : ℕ) → answer (commitPlan sound l (through es (home l))) n ≡ Committed m → ReadsAs (turned (turn w es n v) l) (through es (home l))
+  unfolding seen planOf allowance value
+  turn-done q m d =
+      subst (λ (x : List ℕ). ReadsAs x (through es (home l))) (sym (turn-begun q .1 ∙ done-uncaught (commitPlan sound l (through es (home l))) n m v l d)) (committed-reads l (through es (home l)) n m d)
+
 -- ---- what edits keep, under a condition on each of them
 
 module _ (P : List ℕ → Type 0) (C : Event → Type 0) (keeps : (v : Event) → P (v .space) → C v → P (made (v .edit) (v .space))) where
@@ -83,32 +110,20 @@ module _ (P : List ℕ → Type 0) (C : Event → Type 0) (keeps : (v : Event) �
       holds = step sound l₀ ok l b h (recover n v) .goes-on;
       both = recover-both sound (capacity l₀) P b p n v;
     }
-    goes (turn w es n v) l b h p c = by-refusal rs
+    goes (turn w es n v) l b h p c = by-refusal (beginCall l w .rules)
         (λ r q.
-        record {
-          met = subst (All Meets) (sym (first-refused (λ m. []) rs r (events es begun) q)) nothing;
-          book = b;
-          holds = subst (λ (cs : List Call). Holds sound l₀ (final sound cs l) b) (sym (first-refused (λ m. []) rs r (commit (through es begun) n v ∷ []) q)) h;
-          both = p;
-        })
+        let i = turn-refused l w es n v r q in
+        record { met = subst (All Meets) (sym (i .0)) nothing; book = b; holds = subst (λ (x : List ℕ). Holds sound l₀ x b) (sym (i .1)) h; both = p })
         (λ q.
-        let o = image-open l (passes-both (gateRules Image l) _ q .0) in
-        let is : events es begun ≡ eventsAt (turn w es n v) l = sym (first-passed (λ m. []) rs (events es begun) q) in
-        let same : home l ≡ begun = sym (first-passed (λ m. w) rs (home l) q) in
-        let k = events-keep es begun (subst P same (clear-home l b h p (o .clear))) (subst (All C) (sym is) c) in
-        let b' : Book = next sound (capacity l₀) b (commit (through es begun) n v) in
+        let i = turn-begun l w es n v q in
+        let k = events-keep es (home l) (clear-home l b h p (image-open l (passes-both (gateRules Image l) _ q .0) .clear)) (subst (All C) (i .0) c) in
+        let b' : Book = next sound (capacity l₀) b (commit (through es (home l)) n v) in
         record {
-          met = subst (All Meets) is (k .0);
+          met = subst (All Meets) (sym (i .0)) (k .0);
           book = b';
-          holds = subst (λ (cs : List Call). Holds sound l₀ (final sound cs l) b') (sym (first-passed (λ m. []) rs (commit (through es begun) n v ∷ []) q)) (step sound l₀ ok l b h (commit (through es begun) n v) .goes-on);
-          both = commit-both sound (capacity l₀) P b p n v (through es begun) (k .1);
+          holds = subst (λ (x : List ℕ). Holds sound l₀ x b') (sym (i .1)) (step sound l₀ ok l b h (commit (through es (home l)) n v) .goes-on);
+          both = commit-both sound (capacity l₀) P b p n v (through es (home l)) (k .1);
         })
-      where
-        rs : List Rule
-        rs = beginCall l w .rules
-
-        begun : List ℕ
-        begun = left (beginCall l w) w
 
     turns-on : (us : List Turn) (l : List ℕ) (b : Book) → Holds sound l₀ l b → Both P b → All C (allEvents us l) → All Meets (allEvents us l) × (mark (afterTurns us l) ≡ 0 → P (home (afterTurns us l)))
     unfolding allEvents afterTurns
@@ -122,26 +137,3 @@ module _ (P : List ℕ → Type 0) (C : Event → Type 0) (keeps : (v : Event) �
   pub turns-keep : (l : List ℕ) → Starts sound l → P (home l) → (us : List Turn) → All C (allEvents us l) → All Meets (allEvents us l) × (mark (afterTurns us l) ≡ 0 → P (home (afterTurns us l)))
   unfolding start
   turns-keep l s p us c = turns-on l (s .head) us l (start (home l)) (begins sound l s) (record { kept = p; logged = p }) c
-
--- ---- what a turn is
-
-module _ (l w : List ℕ) (es : List Edit) (n v : ℕ) where
-  -- where begin is refused it does nothing
-  pub turn-refused : (r : ℕ) → refusal (beginCall l w .rules) ≡ some r → (eventsAt (turn w es n v) l ≡ []) × (turned (turn w es n v) l ≡ l)
-  unfolding eventsAt callsAt final
-  turn-refused r q = (
-    first-refused (λ m. []) (beginCall l w .rules) r (events es (left (beginCall l w) w)) q,
-    ap (λ (cs : List Call). final sound cs l) (first-refused (λ m. []) (beginCall l w .rules) r (commit (through es (left (beginCall l w) w)) n v ∷ []) q),
-  )
-
-  -- and where its commit is done, the image reads as what its edits made of home
-  pub turn-done : refusal (beginCall l w .rules) ≡ none → (m : ℕ) → answer (commitPlan sound l (through es (home l))) n ≡ Committed m → ReadsAs (turned (turn w es n v) l) (through es (home l))
-  unfolding callsAt beginCall final seen planOf allowance value
-  turn-done q m d =
-      let begun : left (beginCall l w) w ≡ home l = first-passed (λ k. w) (beginCall l w .rules) (home l) q in
-      let calls : callsAt (turn w es n v) l ≡ commit (through es (home l)) n v ∷ [] =
-      first-passed (λ k. []) (beginCall l w .rules) (commit (through es (left (beginCall l w) w)) n v ∷ []) q
-      ∙ ap (λ (x : List ℕ). commit (through es x) n v ∷ []) begun in
-      let leaves : turned (turn w es n v) l ≡ after (commitPlan sound l (through es (home l))) n l =
-      ap (λ (cs : List Call). final sound cs l) calls ∙ done-uncaught (commitPlan sound l (through es (home l))) n m v l d in
-      subst (λ (x : List ℕ). ReadsAs x (through es (home l))) (sym leaves) (committed-reads l (through es (home l)) n m d)
