@@ -66,7 +66,7 @@ module _ (w : List ℕ) (t : ℕ) (r : Record) where
   unfolding editCall putCall putBy gateRules fullOf numbers refusedWith rulesOf ofAnswer
   pit-never-ten e =
       let q : refusal (editCall (put Pit t r) w .rules) ≡ some 10 = sym (refused-exactly (edit (put Pit t r) w)) ∙ ap ofAnswer e in
-      eqb-false 10 10 (refused-among {P = λ (m : ℕ). eqb m 10 ≡ false} (editCall (put Pit t r) w .rules) 10 (more refl (more refl (more refl (more refl (more refl (more refl nothing)))))) q) refl
+      eqb-false 10 10 (refused-among {P = λ (m : ℕ). eqb m 10 ≡ false} (editCall (put Pit t r) w .rules) 10 (more refl (more refl (more refl (more refl (more refl (more refl (more refl nothing))))))) q) refl
 
   -- "a list the desk filled to 70 is closed to the pit": a listed call is refused with 8, any other with 17
   pub pit-shut : sound w ≡ true → 64 ≤ length (listOf w t) → (answerOf (put Pit t r) w ≡ Refused 8) ⊎ (answerOf (put Pit t r) w ≡ Refused 17)

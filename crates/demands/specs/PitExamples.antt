@@ -10,6 +10,7 @@ use Rattle.records.specs.Records.{key, look, insert, remove, risingFrom, bytesO
 use Rattle.layout.specs.Capacities.{capacity, cells, classOf}
 use Rattle.layout.specs.Zones.{Zone, empty, from, find, blocks, hasTag, rewritten, place, takeOut, settle, change}
 use Rattle.layout.specs.Sizes.{totalAfter}
+use Rattle.layout.specs.Buildings.{buildingFull}
 use Rattle.layout.specs.Valid.{valid}
 use Rattle.layout.specs.Edits.{put as putBy, delete as deleteBy}
 use Rattle.home.specs.Bytes.{spots, encode, decode, zonesFrom}
@@ -53,5 +54,5 @@ without (d ∷ ds) rs = without ds (listBy (delete 7 (key d)) rs)
 case : (answers (put Pit 7 (call 70) ∷ put Pit 7 (call 69) ∷ put Desk 7 (call 70) ∷ []) (filled 0 70) ≡ Refused 17 ∷ Refused 8 ∷ Count 71 ∷ [])
     × (without (callsFrom 0 7) (listBy (put Desk 7 (call 70)) (callsFrom 0 70)) ≡ callsFrom 7 64)
     × (answers (put Pit 7 (call 71) ∷ delete 7 (key (call 7)) ∷ put Pit 7 (call 71) ∷ put Pit 7 (call 72) ∷ []) (filled 7 64) ≡ Refused 17 ∷ Count 63 ∷ Count 64 ∷ Refused 17 ∷ [])
-unfolding answers filled without listBy call callsFrom events editCall putCall deleteCall limitOf fullOf gateRules first sized sound listOf valid decode zonesFrom encode spots settled putBy deleteBy totalAfter change settle place takeOut rewritten hasTag find blocks classOf capacity cells key look insert remove risingFrom bytesOf recordAt records part over get16 get32 bytes16 bytes32 equal blank
+unfolding answers filled without listBy call callsFrom events editCall putCall deleteCall limitOf fullOf gateRules first sized sound listOf valid decode zonesFrom encode spots settled putBy deleteBy buildingFull totalAfter change settle place takeOut rewritten hasTag find blocks classOf capacity cells key look insert remove risingFrom bytesOf recordAt records part over get16 get32 bytes16 bytes32 equal blank
 case = (refl, refl, refl)

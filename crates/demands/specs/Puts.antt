@@ -1,4 +1,4 @@
--- A put by either terminal: where it is refused for its limit and where for room, and what one that is done found.
+-- A put by either terminal: where it is refused for its limit, for its building's part, for tags and for room, and what one that is done found.
 use mathlib.Core.Path.{_≡_, refl, sym, ap, _∙_}
 use mathlib.Core.Bool.{Bool, true, false, not, _&&_}
 use mathlib.Core.Option.{none, some}
@@ -12,7 +12,9 @@ use Rattle.wire.specs.Rules.{Rule, rule, first, refusal, numbers}
 use Rattle.wire.specs.RulesLaws.{first-refused, first-passed, refused-first, refused-only, passes, passed-one, passed-both, passes-both}
 use Rattle.records.specs.declared.Record.{Record}
 use Rattle.records.specs.Records.{key, look, held, insert}
-use Rattle.layout.specs.Zones.{blocks, hasTag}
+use Rattle.layout.specs.Zones.{blocks, tags, hasTag}
+use Rattle.layout.specs.Buildings.{buildingFull}
+use Rattle.layout.specs.FindLaws.{find-none, lacks-has}
 use Rattle.layout.specs.Edits.{put as putBy}
 use Rattle.layout.specs.EditsLaws.{length-insert}
 use Rattle.home.specs.declared.Answer.the-variants.{Count, Refused}
@@ -22,6 +24,7 @@ use Rattle.home.specs.Sound.{sound, pagesOf, listOf}
 use Rattle.edits.specs.declared.Terminal.{Terminal}
 use Rattle.edits.specs.declared.Terminal.the-variants.{Desk, Pit}
 use Rattle.edits.specs.Edits.{limitOf, fullOf}
+use Rattle.edits.specs.EditsLaws.{limit-some}
 use Rattle.gates.specs.declared.Of.the-variants.{Space}
 use Rattle.gates.specs.Gates.{gateRules}
 use Rattle.gates.specs.GatesLaws.{space-open}
@@ -31,16 +34,26 @@ use Rattle.demands.specs.Refusals.{edit, rulesOf, ofAnswer, refusedWith}
 use Rattle.demands.specs.RefusalsLaws.{refused-exactly}
 use Rattle.demands.specs.Sequences.{put, editCall, answerOf}
 
--- the limit's number and 12 are those of one rule each
-limit-apart : (by : Terminal) → All (λ (m : ℕ). eqb m (fullOf by) ≡ false) (6 ∷ 7 ∷ 8 ∷ []) × All (λ (m : ℕ). eqb m (fullOf by) ≡ false) (11 ∷ 12 ∷ [])
+-- each number is that of one rule
+limit-apart : (by : Terminal) → All (λ (m : ℕ). eqb m (fullOf by) ≡ false) (6 ∷ 7 ∷ 8 ∷ []) × All (λ (m : ℕ). eqb m (fullOf by) ≡ false) (19 ∷ 11 ∷ 12 ∷ [])
 unfolding fullOf
-limit-apart Desk = (more refl (more refl (more refl nothing)), more refl (more refl nothing))
-limit-apart Pit = (more refl (more refl (more refl nothing)), more refl (more refl nothing))
+limit-apart Desk = (more refl (more refl (more refl nothing)), more refl (more refl (more refl nothing)))
+limit-apart Pit = (more refl (more refl (more refl nothing)), more refl (more refl (more refl nothing)))
 
-room-apart : (by : Terminal) → All (λ (m : ℕ). eqb m 12 ≡ false) (6 ∷ 7 ∷ 8 ∷ fullOf by ∷ 11 ∷ [])
+part-apart : (by : Terminal) → All (λ (m : ℕ). eqb m 19 ≡ false) (6 ∷ 7 ∷ 8 ∷ fullOf by ∷ [])
 unfolding fullOf
-room-apart Desk = more refl (more refl (more refl (more refl (more refl nothing))))
-room-apart Pit = more refl (more refl (more refl (more refl (more refl nothing))))
+part-apart Desk = more refl (more refl (more refl (more refl nothing)))
+part-apart Pit = more refl (more refl (more refl (more refl nothing)))
+
+entry-apart : (by : Terminal) → All (λ (m : ℕ). eqb m 11 ≡ false) (6 ∷ 7 ∷ 8 ∷ fullOf by ∷ 19 ∷ [])
+unfolding fullOf
+entry-apart Desk = more refl (more refl (more refl (more refl (more refl nothing))))
+entry-apart Pit = more refl (more refl (more refl (more refl (more refl nothing))))
+
+room-apart : (by : Terminal) → All (λ (m : ℕ). eqb m 12 ≡ false) (6 ∷ 7 ∷ 8 ∷ fullOf by ∷ 19 ∷ 11 ∷ [])
+unfolding fullOf
+room-apart Desk = more refl (more refl (more refl (more refl (more refl (more refl nothing)))))
+room-apart Pit = more refl (more refl (more refl (more refl (more refl (more refl nothing)))))
 
 module _ (by : Terminal) (w : List ℕ) (t : ℕ) (r : Record) where
   abbrev listed : Bool
@@ -49,18 +62,25 @@ module _ (by : Terminal) (w : List ℕ) (t : ℕ) (r : Record) where
   abbrev closed : Bool
   closed = leb (limitOf by) (length (listOf w t))
 
+  abbrev noPart : Bool
+  noPart = not (hasTag t (blocks (decode w))) && buildingFull t (tags (blocks (decode w)))
+
   abbrev noEntry : Bool
   noEntry = not (hasTag t (blocks (decode w))) && leb 256 (length (blocks (decode w)))
 
   abbrev noRoom : Bool
   noRoom = ltb (8 * pagesOf w) (totalAfter (stepOf w) t (insert r (listOf w t)) (decode w))
 
+  -- behind the workspace's, 8 and the limit's
+  abbrev behindLimit : List Rule → List Rule
+  behindLimit us = gateRules Space w ++ (rule 8 listed ∷ rule (fullOf by) closed ∷ us)
+
   abbrev rules : List Rule
-  rules = gateRules Space w ++ (rule 8 listed ∷ rule (fullOf by) closed ∷ rule 11 noEntry ∷ rule 12 noRoom ∷ [])
+  rules = behindLimit (rule 19 noPart ∷ rule 11 noEntry ∷ rule 12 noRoom ∷ [])
 
   -- ---- its refusals
 
-  tells : (n : ℕ) → refusal rules ≡ some n → answerOf (put by t r) w ≡ Refused n
+  pub tells : (n : ℕ) → refusal rules ≡ some n → answerOf (put by t r) w ≡ Refused n
   unfolding editCall putCall putBy listOf
   tells n q = first-refused Refused rules n _ q
 
@@ -84,72 +104,129 @@ module _ (by : Terminal) (w : List ℕ) (t : ℕ) (r : Record) where
   -- "It refuses with 17 a pit put to a list of 64 or more, after 8"; and the desk's to one of 989 with 10
   pub closed-refused : Closed → answerOf (put by t r) w ≡ Refused (fullOf by)
   unfolding gateRules first
-  closed-refused c = tells (fullOf by) (refused-first beforeLimit (fullOf by) closed (rule 11 noEntry ∷ rule 12 noRoom ∷ []) (passed-both (gateRules Space w) (rule 8 listed ∷ []) (space-opens w (c .fine)) ∙ passed-one 8 listed [] (c .new)) (le-leb (limitOf by) (length (listOf w t)) (c .many)))
+  closed-refused c = tells (fullOf by) (refused-first beforeLimit (fullOf by) closed (rule 19 noPart ∷ rule 11 noEntry ∷ rule 12 noRoom ∷ []) (passed-both (gateRules Space w) (rule 8 listed ∷ []) (space-opens w (c .fine)) ∙ passed-one 8 listed [] (c .new)) (le-leb (limitOf by) (length (listOf w t)) (c .many)))
 
   -- and none else
   pub refused-closed : answerOf (put by t r) w ≡ Refused (fullOf by) → Closed
   unfolding gateRules numbers
   refused-closed e =
-      let o = refused-only beforeLimit (fullOf by) closed (rule 11 noEntry ∷ rule 12 noRoom ∷ []) (limit-apart by .0) (limit-apart by .1) (told (fullOf by) e) in
+      let o = refused-only beforeLimit (fullOf by) closed (rule 19 noPart ∷ rule 11 noEntry ∷ rule 12 noRoom ∷ []) (limit-apart by .0) (limit-apart by .1) (told (fullOf by) e) in
       let p = passes-both (gateRules Space w) (rule 8 listed ∷ []) (o .0) in
       record { fine = space-open w (p .0); new = passes 8 listed [] (p .1) .0; many = leb-true (limitOf by) (length (listOf w t)) (o .1) }
 
-  -- the sizes of all blocks after the put would be more than the area, and nothing else stands in its way
-  pub record NoRoom : Type 0 where
+  -- ---- where the list is open
+
+  -- the workspace is sound, the call is not listed, and the list is open to the terminal
+  pub record Free : Type 0 where
     pub fine : sound w ≡ true
     pub new : listed ≡ false
     pub few : length (listOf w t) < limitOf by
+
+  free-passes : Free → (us : List Rule) → refusal (behindLimit us) ≡ refusal us
+  free-passes c us =
+      passed-both (gateRules Space w) (rule 8 listed ∷ rule (fullOf by) closed ∷ us) (space-opens w (c .fine))
+      ∙ passed-one 8 listed (rule (fullOf by) closed ∷ us) (c .new)
+      ∙ passed-one (fullOf by) closed us (lt-leb (limitOf by) (length (listOf w t)) (c .few))
+
+  passes-free : (us : List Rule) → refusal (behindLimit us) ≡ none → Free × (refusal us ≡ none)
+  passes-free us q =
+      let p = passes-both (gateRules Space w) (rule 8 listed ∷ rule (fullOf by) closed ∷ us) q in
+      let a = passes 8 listed (rule (fullOf by) closed ∷ us) (p .1) in
+      let b = passes (fullOf by) closed us (a .1) in
+      (record { fine = space-open w (p .0); new = a .0; few = leb-false (limitOf by) (length (listOf w t)) (b .0) }, b .1)
+
+  -- a list of a new tag is
+  pub new-free : sound w ≡ true → hasTag t (blocks (decode w)) ≡ false → Free
+  unfolding listOf look
+  new-free s lacking =
+      let e : listOf w t ≡ [] = find-none t (blocks (decode w)) (lacks-has t (blocks (decode w)) lacking) in
+      record { fine = s; new = rw e refl; few = rw e (limit-some by) }
+
+  -- a new tag beyond the part of its building
+  pub part-refused : Free → noPart ≡ true → answerOf (put by t r) w ≡ Refused 19
+  unfolding gateRules first
+  part-refused c e = tells 19 (refused-first (behindLimit []) 19 noPart (rule 11 noEntry ∷ rule 12 noRoom ∷ []) (free-passes c []) e)
+
+  pub refused-part : answerOf (put by t r) w ≡ Refused 19 → Free × (noPart ≡ true)
+  unfolding gateRules numbers
+  refused-part e =
+      let o = refused-only (behindLimit []) 19 noPart (rule 11 noEntry ∷ rule 12 noRoom ∷ []) (part-apart by) (more refl (more refl nothing)) (told 19 e) in
+      (passes-free [] (o .0) .0, o .1)
+
+  -- a new tag where 256 are
+  pub entry-refused : Free → noPart ≡ false → noEntry ≡ true → answerOf (put by t r) w ≡ Refused 11
+  unfolding gateRules first
+  entry-refused c p e = tells 11 (refused-first (behindLimit (rule 19 noPart ∷ [])) 11 noEntry (rule 12 noRoom ∷ []) (free-passes c (rule 19 noPart ∷ []) ∙ passed-one 19 noPart [] p) e)
+
+  pub refused-entry : answerOf (put by t r) w ≡ Refused 11 → Free × (noPart ≡ false) × (noEntry ≡ true)
+  unfolding gateRules numbers
+  refused-entry e =
+      let o = refused-only (behindLimit (rule 19 noPart ∷ [])) 11 noEntry (rule 12 noRoom ∷ []) (entry-apart by) (more refl nothing) (told 11 e) in
+      let p = passes-free (rule 19 noPart ∷ []) (o .0) in
+      (p .0, passes 19 noPart [] (p .1) .0, o .1)
+
+  -- the sizes of all blocks after the put would be more than the area, and nothing else stands in its way
+  pub record NoRoom : Type 0 where
+    pub free : Free
+    pub part : noPart ≡ false
     pub entry : noEntry ≡ false
     pub more : 8 * pagesOf w < totalAfter (stepOf w) t (insert r (listOf w t)) (decode w)
 
   abbrev beforeRoom : List Rule
-  beforeRoom = gateRules Space w ++ (rule 8 listed ∷ rule (fullOf by) closed ∷ rule 11 noEntry ∷ [])
+  beforeRoom = rule 19 noPart ∷ rule 11 noEntry ∷ []
 
   -- "Refusal 12 then means only this: the sizes of all blocks after the edit add up to more than the record area"
   pub no-room-refused : NoRoom → answerOf (put by t r) w ≡ Refused 12
   unfolding gateRules first
   no-room-refused c =
-      let p : refusal beforeRoom ≡ none =
-      passed-both (gateRules Space w) (rule 8 listed ∷ rule (fullOf by) closed ∷ rule 11 noEntry ∷ []) (space-opens w (c .fine))
-      ∙ passed-one 8 listed (rule (fullOf by) closed ∷ rule 11 noEntry ∷ []) (c .new)
-      ∙ passed-one (fullOf by) closed (rule 11 noEntry ∷ []) (lt-leb (limitOf by) (length (listOf w t)) (c .few))
-      ∙ passed-one 11 noEntry [] (c .entry) in
-      tells 12 (refused-first beforeRoom 12 noRoom [] p (lt-ltb (8 * pagesOf w) (totalAfter (stepOf w) t (insert r (listOf w t)) (decode w)) (c .more)))
+      let p : refusal (behindLimit beforeRoom) ≡ none = free-passes (c .free) beforeRoom ∙ passed-one 19 noPart (rule 11 noEntry ∷ []) (c .part) ∙ passed-one 11 noEntry [] (c .entry) in
+      tells 12 (refused-first (behindLimit beforeRoom) 12 noRoom [] p (lt-ltb (8 * pagesOf w) (totalAfter (stepOf w) t (insert r (listOf w t)) (decode w)) (c .more)))
 
   pub refused-no-room : answerOf (put by t r) w ≡ Refused 12 → NoRoom
   unfolding gateRules numbers
   refused-no-room e =
-      let o = refused-only beforeRoom 12 noRoom [] (room-apart by) nothing (told 12 e) in
-      let p = passes-both (gateRules Space w) (rule 8 listed ∷ rule (fullOf by) closed ∷ rule 11 noEntry ∷ []) (o .0) in
-      let a = passes 8 listed (rule (fullOf by) closed ∷ rule 11 noEntry ∷ []) (p .1) in
-      let b = passes (fullOf by) closed (rule 11 noEntry ∷ []) (a .1) in
+      let o = refused-only (behindLimit beforeRoom) 12 noRoom [] (room-apart by) nothing (told 12 e) in
+      let p = passes-free beforeRoom (o .0) in
+      let a = passes 19 noPart (rule 11 noEntry ∷ []) (p .1) in
       record {
-        fine = space-open w (p .0);
-        new = a .0;
-        few = leb-false (limitOf by) (length (listOf w t)) (b .0);
-        entry = passes 11 noEntry [] (b .1) .0;
+        free = p .0;
+        part = a .0;
+        entry = passes 11 noEntry [] (a .1) .0;
         more = ltb-true (8 * pagesOf w) (totalAfter (stepOf w) t (insert r (listOf w t)) (decode w)) (o .1);
       }
 
   -- ---- where it is done
 
+  abbrev behindRoom : List Rule
+  behindRoom = rule 19 noPart ∷ rule 11 noEntry ∷ rule 12 noRoom ∷ []
+
+  -- where no rule applies it answers one record more
+  pub passed-done : refusal rules ≡ none → answerOf (put by t r) w ≡ Count (suc (length (listOf w t)))
+  unfolding editCall putCall putBy listOf
+  passed-done q = first-passed Refused rules (Count (length (insert r (listOf w t)))) q ∙ ap Count (length-insert r (listOf w t))
+
+  done-passed : (n : ℕ) → answerOf (put by t r) w ≡ Count n → refusal rules ≡ none
+  unfolding editCall putCall putBy listOf refusedWith rulesOf ofAnswer
+  done-passed n e = sym (refused-exactly (edit (put by t r) w)) ∙ ap ofAnswer e
+
   -- it found fewer records than the limit, and answers one more
   pub done-open : (n : ℕ) → answerOf (put by t r) w ≡ Count n → (n ≡ suc (length (listOf w t))) × (length (listOf w t) < limitOf by)
-  unfolding editCall putCall putBy listOf refusedWith rulesOf ofAnswer
   done-open n e =
-      let q : refusal rules ≡ none = sym (refused-exactly (edit (put by t r) w)) ∙ ap ofAnswer e in
-      let c : Count (length (insert r (listOf w t))) ≡ Count n = sym (first-passed Refused rules (Count (length (insert r (listOf w t)))) q) ∙ e in
-      let m : length (insert r (listOf w t)) ≡ n = cc in
-      let a = passes 8 listed _ (passes-both (gateRules Space w) _ q .1) in
-      let b = passes (fullOf by) closed _ (a .1) in
-      (sym m ∙ length-insert r (listOf w t), leb-false (limitOf by) (length (listOf w t)) (b .0))
+      let q = done-passed n e in
+      let m : Count n ≡ Count (suc (length (listOf w t))) = sym e ∙ passed-done q in
+      (cc, passes-free behindRoom q .0 .few)
+
+  -- and a new tag was in the part of its building
+  pub done-part : (n : ℕ) → answerOf (put by t r) w ≡ Count n → noPart ≡ false
+  done-part n e = passes 19 noPart (rule 11 noEntry ∷ rule 12 noRoom ∷ []) (passes-free behindRoom (done-passed n e) .1) .0
 
 -- ---- "The desk still goes to 989"
 
--- its rules are those of before there was a pit: 8, 10, 11 and 12, behind the workspace's
+-- its rules: 8, 10, 19, 11 and 12, behind the workspace's
 pub desk-rules : (w : List ℕ) (t : ℕ) (r : Record) → editCall (put Desk t r) w .rules
     ≡ gateRules Space w ++ (rule 8 (held (look (key r) (listOf w t)))
     ∷ rule 10 (leb 989 (length (listOf w t)))
+    ∷ rule 19 (not (hasTag t (blocks (decode w))) && buildingFull t (tags (blocks (decode w))))
     ∷ rule 11 (not (hasTag t (blocks (decode w))) && leb 256 (length (blocks (decode w))))
     ∷ rule 12 (ltb (8 * pagesOf w) (totalAfter (stepOf w) t (insert r (listOf w t)) (decode w)))
     ∷ [])

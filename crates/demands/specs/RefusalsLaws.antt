@@ -28,12 +28,12 @@ use Rattle.demands.specs.Refusals.{Call, begin, edit, count, rank, merge
 -- ---- which numbers each call can be refused with, in which order
 
 module _ (w : List ℕ) (t k m : ℕ) (r : Record) where
-  put-numbers : numbers (rulesOf (edit (put Desk t r) w)) ≡ 6 ∷ 7 ∷ 8 ∷ 10 ∷ 11 ∷ 12 ∷ []
+  put-numbers : numbers (rulesOf (edit (put Desk t r) w)) ≡ 6 ∷ 7 ∷ 8 ∷ 10 ∷ 19 ∷ 11 ∷ 12 ∷ []
   unfolding rulesOf editCall putCall gateRules putEdit fullOf numbers
   put-numbers = refl
 
   -- "after 8 and before 10", which no pit put meets
-  pit-numbers : numbers (rulesOf (edit (put Pit t r) w)) ≡ 6 ∷ 7 ∷ 8 ∷ 17 ∷ 11 ∷ 12 ∷ []
+  pit-numbers : numbers (rulesOf (edit (put Pit t r) w)) ≡ 6 ∷ 7 ∷ 8 ∷ 17 ∷ 19 ∷ 11 ∷ 12 ∷ []
   unfolding rulesOf editCall putCall gateRules putEdit fullOf numbers
   pit-numbers = refl
 

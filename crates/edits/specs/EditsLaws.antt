@@ -22,7 +22,8 @@ use Rattle.records.specs.Cells.{length-bytesOf}
 use Rattle.records.specs.Edits.{length-encode, decode-encode}
 use Rattle.home.specs.declared.lookup.TagBlock.the-variants.{Unknown}
 use Rattle.layout.specs.Capacities.{cells, classOf}
-use Rattle.layout.specs.Zones.{Zone, blocks, hasTag, find, total, change as changeBy}
+use Rattle.layout.specs.Zones.{Zone, blocks, tags, hasTag, find, total, change as changeBy}
+use Rattle.layout.specs.Buildings.{buildingFull}
 use Rattle.home.specs.Layout.{change, totalAfter, put}
 use Rattle.layout.specs.Sizes.{blockSize, totalAfter as totalAfterBy}
 use Rattle.layout.specs.AfreshLaws.{size-some}
@@ -121,12 +122,12 @@ set-done h t p n j m k g =
 
 -- where those before it do not apply, it depends on 12
 last : (step area limit full t : ℕ) (r : Record) (zs : List Zone) → held (look (key r) (find t (blocks zs))) ≡ false → length (find t (blocks zs)) < limit
-    → not (hasTag t (blocks zs)) && leb 256 (length (blocks zs)) ≡ false → (b : Bool) → leb (totalAfter step t (insert r (find t (blocks zs))) zs) area ≡ b
+    → not (hasTag t (blocks zs)) && buildingFull t (tags (blocks zs)) ≡ false → not (hasTag t (blocks zs)) && leb 256 (length (blocks zs)) ≡ false → (b : Bool) → leb (totalAfter step t (insert r (find t (blocks zs))) zs) area ≡ b
     → refusal (put step area limit full t r zs .rules) ≡ pick {A = Option ℕ} b none (some 12)
 unfolding putBy first
-last step area limit full t r zs h g f b e =
+last step area limit full t r zs h g k f b e =
     let rs : List Record = find t (blocks zs) in
-    rw (h, lt-leb limit (length rs) g, f, sym (not-leb (totalAfter step t (insert r rs) zs) area) ∙ ap not e) (flip b)
+    rw (h, lt-leb limit (length rs) g, k, f, sym (not-leb (totalAfter step t (insert r rs) zs) area) ∙ ap not e) (flip b)
   where
     flip : (b : Bool) → pick {A = Option ℕ} (not b) (some 12) none ≡ pick {A = Option ℕ} b none (some 12)
     flip true = refl
@@ -185,7 +186,7 @@ module _ (h : List ℕ) (t p n j : ℕ) (r : Record) (k : Missing h t p n j r) w
     unfolding listOf
     put-last b q =
         let many : n ≡ length (find t (blocks (decode h))) = listed-many h t p n (k .listed) in
-        last step (8 * pagesOf h) (limitOf by) (fullOf by) t r (decode h) (k .held) (omega arith) (rw (listed-has h t p n (k .listed)) refl) b (sym fits-total ∙ q)
+        last step (8 * pagesOf h) (limitOf by) (fullOf by) t r (decode h) (k .held) (omega arith) (rw (listed-has h t p n (k .listed)) refl) (rw (listed-has h t p n (k .listed)) refl) b (sym fits-total ∙ q)
 
     pub put-done : fitsAfter step h (classOf step n) (classOf step (n + 1)) ≡ true → Ends h (putIn by h t r) (Count (n + 1)) (changed h t new)
     unfolding putBy listOf
@@ -237,13 +238,18 @@ module _ (h : List ℕ) (t : ℕ) (s : sound h ≡ true) (no : hasTag t (blocks 
   unfolding putBy first
   new-either by r = rw (nothing-held (key r), nothing-listed, nothing-closed by, nothing-closed Desk) (refl, refl)
 
-  pub put-tags : (r : Record) → get16 h 0 ≡ 256 → Ends h (putIn Desk h t r) (Refused 11) h
+  -- "beyond this"
+  pub put-building : (r : Record) → buildingFull t (tags (blocks (decode h))) ≡ true → Ends h (putIn Desk h t r) (Refused 19) h
   unfolding putBy first
-  put-tags r e =
-      let g : leb 256 (length (blocks (decode h))) ≡ true = le-leb 256 (length (blocks (decode h))) (omega (arith, sound-tags h s)) in
-      refuses h t (putOf Desk h t r) 11 (rw (nothing-held (key r), nothing-listed, nothing-closed Desk, no, g))
+  put-building r e = refuses h t (putOf Desk h t r) 19 (rw (nothing-held (key r), nothing-listed, nothing-closed Desk, no, e))
 
-  module _ (small : t < 4294967296) (few : get16 h 0 ≢ 256) (r : Record) (fits : Fits r) (bs : List ℕ) (e : bs ≡ recordBytes (r ∷ [])) where
+  pub put-tags : (r : Record) → buildingFull t (tags (blocks (decode h))) ≡ false → get16 h 0 ≡ 256 → Ends h (putIn Desk h t r) (Refused 11) h
+  unfolding putBy first
+  put-tags r free e =
+      let g : leb 256 (length (blocks (decode h))) ≡ true = le-leb 256 (length (blocks (decode h))) (omega (arith, sound-tags h s)) in
+      refuses h t (putOf Desk h t r) 11 (rw (nothing-held (key r), nothing-listed, nothing-closed Desk, no, free, g))
+
+  module _ (small : t < 4294967296) (free : buildingFull t (tags (blocks (decode h))) ≡ false) (few : get16 h 0 ≢ 256) (r : Record) (fits : Fits r) (bs : List ℕ) (e : bs ≡ recordBytes (r ∷ [])) where
     fewer : length (blocks (decode h)) < 256
     fewer = omega (arith, sound-tags h s, sound-valid h s .few)
 
@@ -278,7 +284,7 @@ module _ (h : List ℕ) (t : ℕ) (s : sound h ≡ true) (no : hasTag t (blocks 
     new-last : (b : Bool) → isSome (settledIn h t bs) ≡ b → refusal (putOf Desk h t r .rules) ≡ pick {A = Option ℕ} b none (some 12)
     new-last b q =
         let x : isSome (change (stepOf h) (8 * pagesOf h) t (r ∷ []) (decode h)) ≡ leb (totalAfter (stepOf h) t (r ∷ []) (decode h)) (8 * pagesOf h) = exactly (cells (stepOf h)) (classOf (stepOf h)) (rises (stepOf h)) (8 * pagesOf h) t (decode h) (sound-valid h s) small (r ∷ []) one-listed in
-        last (stepOf h) (8 * pagesOf h) (limitOf Desk) (fullOf Desk) t r (decode h) (nothing-held (key r)) (omega (arith, nothing-listed, limit-some Desk)) (rw (no, lt-leb 256 (length (blocks (decode h))) fewer) refl) b
+        last (stepOf h) (8 * pagesOf h) (limitOf Desk) (fullOf Desk) t r (decode h) (nothing-held (key r)) (omega (arith, nothing-listed, limit-some Desk)) (rw (no, free) refl) (rw (no, lt-leb 256 (length (blocks (decode h))) fewer) refl) b
         (ap (λ (l : List Record). leb (totalAfter (stepOf h) t l (decode h)) (8 * pagesOf h)) list-is ∙ sym x ∙ ap isSome settles ∙ q)
 
     pub new-done : (x : List ℕ) → isSome (settledIn h t bs) ≡ true → x ≡ settled (stepOf h) (pagesOf h) h (settledIn h t bs) → Ends h (putIn Desk h t r) (Count 1) x

@@ -1,6 +1,7 @@
 // The edits of a sound workspace, in place: put, delete, set minutes and drop.
 use home::AREA;
 use home::Answer;
+use home::buildings::building_full;
 use home::lookup::TagBlock;
 use home::lookup::block_of;
 use home::lookup::step_of;
@@ -113,6 +114,9 @@ fn put_new(home: &mut [u8], tag: u32, r: Record) -> Answer
     ensures { λ a. ⌜ a ≡ answered Answer.Refused (putIn Terminal.Desk (now (home .entry)) tag r) ⌝ }
     ensures { λ _. ⌜ now (home .exit) ≡ left (putIn Terminal.Desk (now (home .entry)) tag r) (now (home .entry)) ⌝ }
 {
+    if building_full(home, tag) {
+        return Answer::Refused(19);
+    }
     if wire::get16(home, 0) == 256 {
         return Answer::Refused(11);
     }
@@ -125,7 +129,7 @@ fn put_new(home: &mut [u8], tag: u32, r: Record) -> Answer
     }
 }
 
-// Puts a record to a tag's list. Refused: 8, listed already; 10, 989 records, or 17, 64 records for the pit; 11, 256 tags; 12, no room.
+// Puts a record to a tag's list. Refused: 8, listed already; 10, 989 records, or 17, 64 records for the pit; 19, the tag's building is full; 11, 256 tags; 12, no room.
 pub fn put(home: &mut [u8], by: Terminal, tag: u32, r: Record) -> Answer
     requires { ⌜ sound (now home) ≡ true ⌝ }
     ensures { λ a. ⌜ a ≡ answered Answer.Refused (putIn by (now (home .entry)) tag r) ⌝ }

@@ -162,3 +162,10 @@ entryCell h i = get16 h (128 + 6 * i + 4)
 unfoldable pub entriesAt : List ℕ → ℕ → ℕ → List Entry
 entriesAt h i zero = []
 entriesAt h i (suc n) = record { tag = tagAt h i; cell = entryCell h i } ∷ entriesAt h (suc i) n
+
+-- the tags of the first n, and of all
+abbrev pub firstTags : List ℕ → ℕ → List ℕ
+firstTags h n = map (λ (d : Entry). d .tag) (entriesAt h 0 n)
+
+abbrev pub tagsOf : List ℕ → List ℕ
+tagsOf h = firstTags h (get16 h 0)

@@ -15,7 +15,7 @@ use Rattle.layout.specs.Perm.{Perm, pnil, pskip, pswap, ptrans, In, Pairs, sing
 use Rattle.layout.specs.Valid.{Other}
 use Rattle.home.specs.Bytes.{Spot, row, spots, Entry, entryOf, enter, sorted, dictionary}
 use Rattle.layout.specs.Cases.{by-pick}
-use Rattle.layout.specs.PermLaws.{prefl, psym, plength, pall, all-zip, ppairs, pin, pulled}
+use Rattle.layout.specs.PermLaws.{prefl, psym, plength, pall, all-zip, ppairs, pin, pulled, keep-in}
 
 -- entries of different tags, and of rising tags
 abbrev pub Else : Entry → Entry → Type 0
@@ -101,10 +101,6 @@ rising-else (x ∷ xs) (after a h) = after (all-map {P = Below x} {Q = Else x} (
 
 -- ---- a rising list of as many entries as blocks, each one a block's, is the dictionary
 
-keep-in : (d x : Entry) (es : List Entry) → Else d x → In x (d ∷ es) → In x es
-keep-in d x es o (inl e) = absurd (o (sym (ap (λ (y : Entry). y .tag) e)))
-keep-in d x es o (inr i) = i
-
 pigeon : (ds es : List Entry) → Pairs Else ds → All (λ (d : Entry). In d es) ds → length ds ≡ length es → Perm ds es
 pigeon [] [] o h l = pnil
 pigeon [] (e ∷ es) o h l = absurd (omega arith)
@@ -112,7 +108,7 @@ pigeon (d ∷ ds) es (after a o) (more i h) l =
     let r = pulled d es i in
     let p : Perm es (d ∷ r .0) = r .1 in
     ptrans (pskip d (pigeon ds (r .0) o
-    (all-zip (Else d) (λ (x : Entry). In x es) (λ (x : Entry). In x (r .0)) ds (λ x a i. keep-in d x (r .0) a (pin x p i)) a h)
+    (all-zip (Else d) (λ (x : Entry). In x es) (λ (x : Entry). In x (r .0)) ds (λ x a i. keep-in d x (r .0) (λ e. a (sym (ap (λ (y : Entry). y .tag) e))) (pin x p i)) a h)
     (omega (arith, plength p))))
     (psym p)
 

@@ -12,6 +12,7 @@ use Rattle.records.specs.Records.{key, look, insert, remove, amend, bytesOf, ri
 use Rattle.layout.specs.Capacities.{capacity, cells, classOf}
 use Rattle.layout.specs.Zones.{Zone, empty, blocks, hasTag, find, rewritten, place, takeOut, settle, change}
 use Rattle.layout.specs.Sizes.{totalAfter}
+use Rattle.layout.specs.Buildings.{buildingFull}
 use Rattle.home.specs.Bytes.{Entry, dictionary, encode, decode, zonesFrom}
 use Rattle.layout.specs.Valid.{valid}
 use Rattle.home.specs.Sound.{sound}
@@ -116,7 +117,7 @@ bench =
     []
 
 bench-holds : follow 0 16 (replicate 30 empty) bench ≡ true
-unfolding follow change settle place takeOut rewritten hasTag look insert remove amend cells totalAfter bench
+unfolding follow change settle place takeOut rewritten hasTag look insert remove amend cells totalAfter buildingFull bench
 bench-holds = refl
 
 -- the same calls with step code 1: classes 0 and 1 have 5 and 8 cells, so that there is room for other blocks
@@ -156,7 +157,7 @@ bench-coarse =
     [])
 
 bench-coarse-holds : follow 1 16 (replicate 30 empty) bench-coarse ≡ true
-unfolding follow change settle place takeOut rewritten hasTag look insert remove amend cells totalAfter outgrown bench-coarse
+unfolding follow change settle place takeOut rewritten hasTag look insert remove amend cells totalAfter buildingFull outgrown bench-coarse
 bench-coarse-holds = refl
 
 -- and a list that grows on: its eighth record finds no room
@@ -170,7 +171,7 @@ grown =
     [])
 
 grown-holds : follow 1 16 (replicate 30 empty) grown ≡ true
-unfolding follow change settle place takeOut rewritten hasTag look insert remove amend cells totalAfter outgrown grown
+unfolding follow change settle place takeOut rewritten hasTag look insert remove amend cells totalAfter buildingFull outgrown grown
 grown-holds = refl
 
 -- the layout after them
@@ -254,7 +255,7 @@ model =
     []
 
 model-holds : follow 0 16 (replicate 30 empty) model ≡ true
-unfolding follow change settle place takeOut rewritten hasTag look insert remove amend cells totalAfter model
+unfolding follow change settle place takeOut rewritten hasTag look insert remove amend cells totalAfter buildingFull model
 model-holds = refl
 
 -- the home that the model was given to spoil
@@ -287,7 +288,7 @@ pokings =
     []
 
 model-judges : judged whole (record { pokes = []; fine = true } ∷ pokings) ≡ true
-unfolding judged whole pokings change settle place takeOut rewritten hasTag look insert remove amend cells totalAfter sound valid equal decode zonesFrom encode bytesOf risingFrom recordAt classOf find blocks capacity part blank
+unfolding judged whole pokings change settle place takeOut rewritten hasTag look insert remove amend cells totalAfter buildingFull sound valid equal decode zonesFrom encode bytesOf risingFrom recordAt classOf find blocks capacity part blank
 model-judges = refl
 
 -- a list of 7 records has class 1 by code 1 and class 3 by code 0: its home is sound with its own code alone
@@ -299,5 +300,5 @@ codes : List Poked
 codes = record { pokes = []; fine = true } ∷ record { pokes = (122, 0) ∷ []; fine = false } ∷ []
 
 codes-judged : judged other codes ≡ true
-unfolding judged other codes change settle place takeOut rewritten hasTag look insert remove amend cells totalAfter sound valid equal decode zonesFrom encode bytesOf risingFrom recordAt classOf find blocks capacity part blank
+unfolding judged other codes change settle place takeOut rewritten hasTag look insert remove amend cells totalAfter buildingFull sound valid equal decode zonesFrom encode bytesOf risingFrom recordAt classOf find blocks capacity part blank
 codes-judged = refl

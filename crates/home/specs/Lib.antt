@@ -20,3 +20,5 @@ pub mod Lookup
 pub mod LookupLoopLaws
 pub mod TagBlockLaws
 pub mod EndLaws
+pub mod TagsLaws
+pub mod BuildingsLaws

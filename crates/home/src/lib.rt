@@ -1,4 +1,5 @@
 // Home: the bytes of a layout, soundness and lookup.
+pub mod buildings;
 pub mod lookup;
 
 // What an edit, a count or a merge answers: a number of records, or refused with its number.

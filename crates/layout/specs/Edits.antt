@@ -7,8 +7,9 @@ use lib.ListN.{length}
 use Rattle.wire.specs.Rules.{Rule, rule}
 use Rattle.records.specs.declared.Record.{Record}
 use Rattle.records.specs.Records.{key, look, held, insert, remove, amend}
-use Rattle.layout.specs.Zones.{Zone, blocks, hasTag, find}
+use Rattle.layout.specs.Zones.{Zone, blocks, tags, hasTag, find}
 use Rattle.layout.specs.Sizes.{totalAfter}
+use Rattle.layout.specs.Buildings.{buildingFull}
 
 -- "Each answers the record count of that list afterwards"
 pub record Edit : Type 0 where
@@ -16,13 +17,14 @@ pub record Edit : Type 0 where
   pub list : List Record
 
 -- "8: put, primary part already listed", "11: put, new tag, 256 present"; 12: "the sizes of all blocks after the edit add up to more than the record area".
--- Between 8 and 11 the number `full`, put to a list of `limit` or more.
+-- Behind 8 the number `full`, put to a list of `limit` or more. "It refuses with 19 a put of a new tag beyond this, after 10 and before 11."
 unfoldable pub put : (ℕ → ℕ) → (ℕ → ℕ) → ℕ → ℕ → ℕ → ℕ → Record → List Zone → Edit
 put cells classOf area limit full t r zs =
     let rs : List Record = find t (blocks zs) in
     record {
       rules = rule 8 (held (look (key r) rs))
           ∷ rule full (leb limit (length rs))
+          ∷ rule 19 (not (hasTag t (blocks zs)) && buildingFull t (tags (blocks zs)))
           ∷ rule 11 (not (hasTag t (blocks zs)) && leb 256 (length (blocks zs)))
           ∷ rule 12 (ltb area (totalAfter cells classOf t (insert r rs) zs))
           ∷ [];

@@ -17,7 +17,8 @@ use Rattle.records.specs.declared.Record.{Record}
 use Rattle.records.specs.Records.{Fits, key, rising, look, held, insert, remove, lasting, amend}
 use Rattle.records.specs.Order.{rising-nil, insert-rising, remove-rising, amend-rising}
 use Rattle.layout.specs.Rising.{Rising}
-use Rattle.layout.specs.Zones.{Block, Zone, empty, from, hasTag, blocks, find, total, change}
+use Rattle.layout.specs.Zones.{Block, Zone, empty, from, hasTag, blocks, tags, find, total, change}
+use Rattle.layout.specs.Buildings.{buildingFull}
 use Rattle.layout.specs.Edits.{recordRules, put, delete, setMinutes, dropTag}
 use Rattle.layout.specs.Cases.{by-pick, some-is, Holds}
 use Rattle.layout.specs.FindLaws.{by-tag, has-here, has-skip, find-here, find-skip}
@@ -198,7 +199,8 @@ module _ (cells classOf : ℕ → ℕ) (up : Rising cells classOf) where
     put-fine limit full low r f e =
         let a = passes 8 (held (look (key r) list)) _ e in
         let b = passes full (leb limit (length list)) _ (a .1) in
-        let c = passes 11 (not (hasTag t (blocks zs)) && leb 256 (length (blocks zs))) _ (b .1) in
+        let a19 = passes 19 (not (hasTag t (blocks zs)) && buildingFull t (tags (blocks zs))) _ (b .1) in
+        let c = passes 11 (not (hasTag t (blocks zs)) && leb 256 (length (blocks zs))) _ (a19 .1) in
         let d = passes 12 (ltb n (totalAfter cells classOf t (insert r list) zs)) [] (c .1) in
         let l : Proper (insert r list) = insert-listed r list f (a .0) (omega (arith, leb-false limit (length list) (b .0))) proper in
         record {

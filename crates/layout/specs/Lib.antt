@@ -3,6 +3,7 @@ pub mod Capacities
 pub mod Zones
 pub mod Perm
 pub mod Valid
+pub mod Buildings
 pub mod Edits
 pub mod Cases
 pub mod Table
@@ -10,6 +11,8 @@ pub mod Rising
 pub mod ClassesLaws
 pub mod CapacitiesLaws
 pub mod PermLaws
+pub mod BuildingsLaws
+pub mod BuildingsExamples
 pub mod FindLaws
 pub mod PlaceLaws
 pub mod TakeLaws

@@ -1,6 +1,6 @@
 -- What does not depend on the order of a list.
 use mathlib.Core.Path.{_≡_, refl, sym, ap, _∙_, subst}
-use mathlib.Core.Logic.{inl, inr}
+use mathlib.Core.Logic.{_≢_, inl, inr}
 use mathlib.Core.List.{List, [], _∷_, _++_, map, append-nil}
 use Prim.Native.Nat.{ℕ, suc, _+_}
 use native.Mathlib.Omega.{arith}
@@ -101,6 +101,23 @@ module _ {A : Type 0} where
   pulled x [] i = absurd i
   pulled x (y ∷ ys) (inl e) = (ys, subst (λ z. Perm (y ∷ ys) (z ∷ ys)) (sym e) (prefl (y ∷ ys)))
   pulled x (y ∷ ys) (inr i) = let r = pulled x ys i in (y ∷ r .0, ptrans (pskip y (r .1)) (pswap y x (r .0)))
+
+  pub keep-in : (x z : A) (ys : List A) → z ≢ x → In z (x ∷ ys) → In z ys
+  keep-in x z ys d (inl e) = absurd (d e)
+  keep-in x z ys d (inr i) = i
+
+  -- lists of the same members, none of which has one twice
+  pub pmembers : (xs ys : List A) → Pairs _≢_ xs → Pairs _≢_ ys → ((x : A) → In x xs → In x ys) → ((x : A) → In x ys → In x xs) → Perm xs ys
+  pmembers [] [] a b f g = pnil
+  pmembers [] (y ∷ ys) a b f g = absurd (g y (inl refl))
+  pmembers (x ∷ xs) ys (after o a) b f g =
+      let r = pulled x ys (f x (inl refl)) in
+      let p : Perm ys (x ∷ r .0) = r .1 in
+      let d : Pairs _≢_ (x ∷ r .0) = ppairs _≢_ (λ y z n e. n (sym e)) p b in
+      ptrans (pskip x (pmembers xs (r .0) a (pairs-tail _≢_ x (r .0) d)
+      (λ z i. keep-in x z (r .0) (λ e. all-in (λ (y : A). x ≢ y) z xs o i (sym e)) (pin z p (f z (inr i))))
+      (λ z i. keep-in x z xs (λ e. all-in (λ (y : A). x ≢ y) z (r .0) (pairs-head _≢_ x (r .0) d) i (sym e)) (g z (pin z (psym p) (inr i))))))
+      (psym p)
 
 module _ {A B : Type 0} (f : A → B) where
   pub pmap : {xs ys : List A} → Perm xs ys → Perm (map f xs) (map f ys)

@@ -1,7 +1,7 @@
 -- The layout: blocks in zones, and how they move ("How blocks move").
 use mathlib.Core.Bool.{Bool, true, false}
 use mathlib.Core.Option.{Option, none, some, Option·map}
-use mathlib.Core.List.{List, [], _∷_, _++_}
+use mathlib.Core.List.{List, [], _∷_, _++_, map}
 use Prim.Native.Nat.{ℕ, zero, suc, _+_, _*_, _-_}
 use lib.Dec.{leb, eqb}
 use lib.ListN.{length}
@@ -31,6 +31,10 @@ unfoldable pub blocks : List Zone → List Block
 blocks [] = []
 blocks (empty ∷ zs) = blocks zs
 blocks (from f x xs ∷ zs) = x ∷ (xs ++ blocks zs)
+
+-- their tags
+abbrev pub tags : List Block → List ℕ
+tags bs = map (λ (b : Block). b .tag) bs
 
 -- has a tag a block
 unfoldable pub hasTag : ℕ → List Block → Bool

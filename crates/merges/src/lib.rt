@@ -80,12 +80,6 @@ fn kept(m: Merge, w: Side) -> bool
     }
 }
 
-fn one_if(b: bool) -> usize
-    ensures { λ r. ⌜ r ≡ tally b ⌝ }
-{
-    if b { 1 } else { 0 }
-}
-
 // The record of a call: the first list's where both have it.
 fn next_at(a: &[u8], i: usize, b: &[u8], j: usize, w: Side) -> Record
     requires { ⌜ (i + ofFirst w ≤ length (now a) / 8) × (j + ofSecond w ≤ length (now b) / 8) ⌝ }
@@ -137,7 +131,7 @@ pub fn merge_count(m: Merge, a: &[u8], b: &[u8]) -> usize
     let mut k = 0;
     while left(a, i, b, j) {
         let w = side_at(a, i, b, j);
-        k += one_if(kept(m, w));
+        k += records::one_if(kept(m, w));
         i += of_first(w);
         j += of_second(w);
     }

@@ -4,7 +4,7 @@ ghost use mathlib.Core.Bool.{true};
 ghost use Prim.Native.Nat.{_+_, _*_, _/_, _≤_, _<_};
 ghost use lib.ListN.{length, getD};
 ghost use Rattle.wire.specs.Bytes.{get32, over};
-ghost use Rattle.records.specs.Records.{key, recordAt, bytesOf, decode, rising as ordered, ranked, below, inserted, removed, amended};
+ghost use Rattle.records.specs.Records.{tally, key, recordAt, bytesOf, decode, rising as ordered, ranked, below, inserted, removed, amended};
 
 // A call on record. Level, second and phone are its primary part.
 pub struct Record {
@@ -18,6 +18,13 @@ pub struct Record {
 pub enum Rank {
     Found(usize),
     Absent(usize),
+}
+
+// One for what counts, none for what does not.
+pub fn one_if(b: bool) -> usize
+    ensures { λ r. ⌜ r ≡ tally b ⌝ }
+{
+    if b { 1 } else { 0 }
 }
 
 // A record's primary part as one number.

@@ -1,6 +1,6 @@
 use Rattle.records.specs.Records.{tally}
-use Rattle.merges.proofs.one_if.Statement.{statement}
-use Rattle.merges.proofs.one_if.Tie as tie
+use Rattle.records.proofs.one_if.Statement.{statement}
+use Rattle.records.proofs.one_if.Tie as tie
 
 returns : tie.Need-returns
 unfolding tally

@@ -1,0 +1,100 @@
+-- The tags of a sound home, in the dictionary's order: they rise, are those of the blocks, and are exactly the tags with a list.
+use mathlib.Core.Path.{_≡_, refl, sym, ap, ap₂, _∙_, subst}
+use mathlib.Core.Bool.{true, false}
+use mathlib.Core.Logic.{_≢_, inl, inr}
+use mathlib.Core.List.{List, [], _∷_, map}
+use Prim.Native.Nat.{ℕ, _*_, _<_}
+use native.Mathlib.Omega.{arith}
+use lib.ListN.{length}
+use Rattle.wire.specs.All.{All, none, more, all-map}
+use Rattle.wire.specs.Bytes.{get16}
+use Rattle.wire.specs.Cases.{by-test, never}
+use Rattle.records.specs.declared.Record.{Record}
+use Rattle.layout.specs.Capacities.{cells, classOf}
+use Rattle.layout.specs.CapacitiesLaws.{rising as rises}
+use Rattle.layout.specs.Zones.{Block, blocks, tags, hasTag}
+use Rattle.layout.specs.Perm.{Perm, In, Pairs, single, after}
+use Rattle.layout.specs.PermLaws.{pmap, pin, psym, all-in}
+use Rattle.layout.specs.BuildingsLaws.{Tags}
+use Rattle.layout.specs.FindLaws.{by-tag, has-here, has-skip, find-none, lacks-has}
+use Rattle.layout.specs.EditsLaws.{empty-unknown}
+use Rattle.home.specs.Bytes.{stepOf, Spot, spots, Entry, entryOf, dictionary, decode, tagAt, entryCell, entriesAt, tagsOf}
+use Rattle.home.specs.Sound.{sound, pagesOf, listOf}
+use Rattle.home.specs.SoundLaws.{sound-small, sound-valid, sound-loose, sound-words}
+use Rattle.home.specs.EntriesLaws.{Small, dictionary-small}
+use Rattle.home.specs.LookupLaws.{entry-in}
+use Rattle.home.specs.DictionaryLaws.{Below, spots-blocks, dictionary-rising, dictionary-perm}
+
+-- ---- tags of blocks, of entries and of spots
+
+spots-tags : (ss : List Spot) → map (λ (d : Entry). d .tag) (map entryOf ss) ≡ tags (map (λ (s : Spot). s .block) ss)
+spots-tags [] = refl
+spots-tags (s ∷ ss) = ap (λ (l : List ℕ). s .block .tag ∷ l) (spots-tags ss)
+
+rising-head : (d : Entry) (ds : List Entry) → All (Below d) ds → All (λ (u : ℕ). d .tag < u) (map (λ (x : Entry). x .tag) ds)
+rising-head d [] h = none
+rising-head d (x ∷ ds) (more a h) = more a (rising-head d ds h)
+
+rising-tags : (ds : List Entry) → Pairs Below ds → Pairs _<_ (map (λ (d : Entry). d .tag) ds)
+rising-tags [] h = single
+rising-tags (d ∷ ds) (after a h) = after (rising-head d ds a) (rising-tags ds h)
+
+pub rising-distinct : (ts : List ℕ) → Pairs _<_ ts → Pairs _≢_ ts
+rising-distinct [] h = single
+rising-distinct (t ∷ ts) (after a h) = after (all-map {P = λ (u : ℕ). t < u} {Q = λ (u : ℕ). t ≢ u} (λ u b e. omega arith) a) (rising-distinct ts h)
+
+small-tags : (ds : List Entry) → All Small ds → Tags (map (λ (d : Entry). d .tag) ds)
+small-tags [] h = none
+small-tags (d ∷ ds) (more a h) = more (a .tag) (small-tags ds h)
+
+has-in : (t : ℕ) (bs : List Block) → hasTag t bs ≡ true → In t (tags bs)
+unfolding hasTag
+has-in t [] h = never h
+has-in t (b ∷ bs) h = by-tag t b (λ e. inl (sym e)) (λ n. inr (has-in t bs (sym (has-skip t b bs n) ∙ h)))
+
+in-has : (t : ℕ) (bs : List Block) → In t (tags bs) → hasTag t bs ≡ true
+in-has t [] i = absurd i
+in-has t (b ∷ bs) (inl e) = has-here t b bs (sym e)
+in-has t (b ∷ bs) (inr i) = by-tag t b (λ e. has-here t b bs e) (λ n. has-skip t b bs n ∙ in-has t bs i)
+
+-- ---- of a sound home
+
+module _ (h : List ℕ) (s : sound h ≡ true) where
+  pub tags-perm : Perm (tagsOf h) (tags (blocks (decode h)))
+  tags-perm =
+      let step : ℕ = stepOf h in
+      let tag : Entry → ℕ = λ (d : Entry). d .tag in
+      subst (λ (ds : List Entry). Perm (map tag ds) (tags (blocks (decode h)))) (sym (sound-words h s))
+      (subst (Perm (map tag (dictionary step (decode h)))) (spots-tags (spots step 0 (decode h)) ∙ ap tags (spots-blocks step 0 (decode h)))
+      (pmap tag (dictionary-perm step (decode h))))
+
+  pub tags-rise : Pairs _<_ (tagsOf h)
+  tags-rise = subst (λ (ds : List Entry). Pairs _<_ (map (λ (d : Entry). d .tag) ds)) (sym (sound-words h s)) (rising-tags (dictionary (stepOf h) (decode h)) (dictionary-rising (stepOf h) (decode h) (sound-valid h s .distinct)))
+
+  entries-small : All Small (entriesAt h 0 (get16 h 0))
+  entries-small = subst (All Small) (sym (sound-words h s)) (dictionary-small (stepOf h) (pagesOf h) (decode h) (sound-small h s) (sound-loose h s .fit))
+
+  pub tags-small : Tags (tagsOf h)
+  tags-small = small-tags (entriesAt h 0 (get16 h 0)) entries-small
+
+  pub tag-small : (i : ℕ) → i < get16 h 0 → tagAt h i < 4294967296
+  tag-small i g = all-in Small (record { tag = tagAt h i; cell = entryCell h i }) (entriesAt h 0 (get16 h 0)) entries-small (entry-in h 0 (get16 h 0) i (omega arith) (omega arith)) .tag
+
+  -- known to the layout, to the dictionary, or by its list
+  pub nonempty-has : (t : ℕ) → 0 < length (listOf h t) → hasTag t (blocks (decode h)) ≡ true
+  unfolding listOf
+  nonempty-has t g = by-test (hasTag t (blocks (decode h))) (λ e. e) (λ e. absurd (omega (arith, ap length (find-none t (blocks (decode h)) (lacks-has t (blocks (decode h)) e)))))
+
+  pub has-nonempty : (t : ℕ) → hasTag t (blocks (decode h)) ≡ true → 0 < length (listOf h t)
+  unfolding listOf
+  has-nonempty t e = go (listOf h t) refl
+    where
+      go : (rs : List Record) → listOf h t ≡ rs → 0 < length rs
+      go [] q = never (sym (empty-unknown (cells (stepOf h)) (classOf (stepOf h)) (rises (stepOf h)) (8 * pagesOf h) t (decode h) (sound-valid h s) q) ∙ e)
+      go (r ∷ rs) q = omega arith
+
+  pub listed-tag : (t : ℕ) → 0 < length (listOf h t) → In t (tagsOf h)
+  listed-tag t g = pin t (psym tags-perm) (has-in t (blocks (decode h)) (nonempty-has t g))
+
+  pub tag-listed : (t : ℕ) → In t (tagsOf h) → 0 < length (listOf h t)
+  tag-listed t i = has-nonempty t (in-has t (blocks (decode h)) (pin t tags-perm i))
