@@ -11,3 +11,4 @@ pub mod SequencesLaws
 pub mod Puts
 pub mod Pit
 pub mod PitExamples
+pub mod Buildings

@@ -152,18 +152,24 @@ module _ (l : List ℕ) (L R step n : ℕ) (code : step ≤ 1) (fits : inRange L
       let size = in-range L R fits in
       ap sound formatted-home ∙ sound-encode step R no-zones code (size .some-pages) (size .few-pages) (no-zones-valid step R)
 
-  formatted-empty : (t : ℕ) → listOf (home made) t ≡ []
+  pub formatted-empty : (t : ℕ) → listOf (home made) t ≡ []
   unfolding no-zones blocks find
   formatted-empty t =
       let size = in-range L R fits in
       ap (λ (y : List ℕ). listOf y t) formatted-home ∙ listOf-encode step R no-zones t (size .few-pages) (no-zones-valid step R)
 
+  -- a list of commits and recoveries can start on it
+  pub formatted-starts : Starts sound made
+  formatted-starts = record {
+    head = ap headOk formatted-is ∙ empty-head L R 122 step (omega arith) fits;
+    unmarked = ap mark formatted-is ∙ empty-mark L R 122 step (omega arith) fits;
+    fine = formatted-sound;
+  }
+
   -- it reads empty for every tag
   pub formatted-reads : (t : ℕ) → (countIn Image made t ≡ Count 0) × (showIn Image made t ≡ [])
   unfolding homeIn recordBytes
   formatted-reads t =
-      let head : headOk made ≡ true = ap headOk formatted-is ∙ empty-head L R 122 step (omega arith) fits in
-      let clear : mark made ≡ 0 = ap mark formatted-is ∙ empty-mark L R 122 step (omega arith) fits in
-      let r = reads-list Image made t (image-opens made head clear formatted-sound) in
+      let r = reads-list Image made t (image-opens made (formatted-starts .head) (formatted-starts .unmarked) (formatted-starts .fine)) in
       let e : listOf (home made) t ≡ [] = formatted-empty t in
       (r .0 ∙ ap (λ (y : List Record). Count (length y)) e, r .1 ∙ ap recordBytes e)

@@ -1,6 +1,7 @@
 -- A put by either terminal: where it is refused for its limit, for its building's part, for tags and for room, and what one that is done found.
 use mathlib.Core.Path.{_≡_, refl, sym, ap, _∙_}
 use mathlib.Core.Bool.{Bool, true, false, not, _&&_}
+use mathlib.Core.Logic.{_⊎_, inl, inr}
 use mathlib.Core.Option.{none, some}
 use mathlib.Core.List.{List, [], _∷_, _++_}
 use Prim.Native.Nat.{ℕ, suc, _*_, _≤_, _<_}
@@ -8,6 +9,7 @@ use lib.Dec.{leb, ltb, eqb}
 use lib.ListN.{length}
 use borrow.Author.Tests.{leb-true, leb-false, le-leb, lt-leb, ltb-true, lt-ltb}
 use Rattle.wire.specs.All.{All, none as nothing, more}
+use Rattle.wire.specs.Cases.{by-test}
 use Rattle.wire.specs.Rules.{Rule, rule, first, refusal, numbers}
 use Rattle.wire.specs.RulesLaws.{first-refused, first-passed, refused-first, refused-only, passes, passed-one, passed-both, passes-both}
 use Rattle.records.specs.declared.Record.{Record}
@@ -204,6 +206,13 @@ module _ (by : Terminal) (w : List ℕ) (t : ℕ) (r : Record) where
   pub passed-done : refusal rules ≡ none → answerOf (put by t r) w ≡ Count (suc (length (listOf w t)))
   unfolding editCall putCall putBy listOf
   passed-done q = first-passed Refused rules (Count (length (insert r (listOf w t)))) q ∙ ap Count (length-insert r (listOf w t))
+
+  -- where its list is open and it may have its tag, it depends on room alone
+  pub by-room : Free → noPart ≡ false → noEntry ≡ false → (answerOf (put by t r) w ≡ Count (suc (length (listOf w t)))) ⊎ (answerOf (put by t r) w ≡ Refused 12)
+  unfolding first
+  by-room c p e = by-test noRoom
+      (λ q. inr (no-room-refused (record { free = c; part = p; entry = e; more = ltb-true (8 * pagesOf w) (totalAfter (stepOf w) t (insert r (listOf w t)) (decode w)) q })))
+      (λ q. inl (passed-done (free-passes c behindRoom ∙ passed-one 19 noPart (rule 11 noEntry ∷ rule 12 noRoom ∷ []) p ∙ passed-one 11 noEntry (rule 12 noRoom ∷ []) e ∙ passed-one 12 noRoom [] q)))
 
   done-passed : (n : ℕ) → answerOf (put by t r) w ≡ Count n → refusal rules ≡ none
   unfolding editCall putCall putBy listOf refusedWith rulesOf ofAnswer

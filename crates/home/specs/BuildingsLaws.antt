@@ -17,13 +17,13 @@ use Rattle.layout.specs.Zones.{Block, blocks, tags}
 use Rattle.layout.specs.Perm.{Perm, pskip, pswap, ptrans, sum}
 use Rattle.layout.specs.PermLaws.{prefl, psym, plength, pall, pmap}
 use Rattle.layout.specs.Buildings.{building, upTo, owned, buildingFull}
-use Rattle.layout.specs.BuildingsLaws.{Tags, owned-more, owned-perm, beyond, beyond-more, beyond-perm, full-beyond}
+use Rattle.layout.specs.BuildingsLaws.{Tags, owned-more, owned-perm, beyond, beyond-more, beyond-perm, full-perm, full-beyond}
 use Rattle.home.specs.Bytes.{Entry, decode, tagAt, entryCell, entriesAt, firstTags, tagsOf}
 use Rattle.home.specs.Sound.{sound}
 use Rattle.home.specs.SoundLaws.{sound-tags, sound-valid}
 use Rattle.home.specs.Lookup.{Ordered}
 use Rattle.home.specs.LookupLoopLaws.{sound-ordered}
-use Rattle.home.specs.TagsLaws.{tags-perm, tags-small, tag-small}
+use Rattle.home.specs.TagsLaws.{tags-perm, tags-small, tags-few, tag-small}
 
 -- ---- an entry more
 
@@ -47,7 +47,7 @@ module _ (h : List ℕ) where
   of b i = owned b (firstTags h i)
 
   of-more : (b i : ℕ) → of b (suc i) ≡ tally (eqb (building (tagAt h i)) b) + of b i
-  of-more b i = owned-perm b (first-more h i) ∙ owned-more (tagAt h i) (firstTags h i) b
+  of-more b i = owned-perm (first-more h i) b ∙ owned-more (tagAt h i) (firstTags h i) b
 
   of-nil : (b : ℕ) → of b 0 ≡ 0
   unfolding owned sum entriesAt
@@ -129,12 +129,10 @@ module _ (h : List ℕ) (b : ℕ) (s : sound h ≡ true) where
 module _ (h : List ℕ) (t own over i : ℕ) (s : sound h ≡ true) (k : Counting h (building t) own over i) (all : get16 h 0 ≤ i) where
   counted : buildingFull t (tags (blocks (decode h))) ≡ (leb 8 own && leb 128 over)
   counted =
-      let ts : List ℕ = tags (blocks (decode h)) in
       let e : i ≡ get16 h 0 = omega (arith, k .under) in
-      let a : own ≡ owned (building t) ts = k .of-building ∙ ap (λ (j : ℕ). owned (building t) (firstTags h j)) e ∙ owned-perm (building t) (tags-perm h s) in
-      let b : over ≡ beyond ts = k .of-all ∙ ap (λ (j : ℕ). beyond (firstTags h j)) e ∙ beyond-perm (tags-perm h s) in
-      full-beyond t ts (pall (λ (u : ℕ). u < 4294967296) (tags-perm h s) (tags-small h s)) (omega (arith, length-map (blocks (decode h)) (λ (x : Block). x .tag), sound-valid h s .few))
-      ∙ sym (ap₂ (λ (x y : ℕ). leb 8 x && leb 128 y) a b)
+      let a : own ≡ owned (building t) (tagsOf h) = k .of-building ∙ ap (λ (j : ℕ). owned (building t) (firstTags h j)) e in
+      let b : over ≡ beyond (tagsOf h) = k .of-all ∙ ap (λ (j : ℕ). beyond (firstTags h j)) e in
+      full-perm (psym (tags-perm h s)) t ∙ full-beyond t (tagsOf h) (tags-small h s) (tags-few h s) ∙ sym (ap₂ (λ (x y : ℕ). leb 8 x && leb 128 y) a b)
 
   pub count-eight : 8 ≤ own → leb 128 over ≡ buildingFull t (tags (blocks (decode h)))
   count-eight g = sym (counted ∙ ap (λ (x : Bool). x && leb 128 over) (le-leb 8 own g))

@@ -3,18 +3,18 @@ use mathlib.Core.Path.{_≡_, refl, sym, ap, ap₂, _∙_, subst}
 use mathlib.Core.Bool.{true, false}
 use mathlib.Core.Logic.{_≢_, inl, inr}
 use mathlib.Core.List.{List, [], _∷_, map}
-use Prim.Native.Nat.{ℕ, _*_, _<_}
+use Prim.Native.Nat.{ℕ, _*_, _≤_, _<_}
 use native.Mathlib.Omega.{arith}
-use lib.ListN.{length}
+use lib.ListN.{length, length-map}
 use Rattle.wire.specs.All.{All, none, more, all-map}
 use Rattle.wire.specs.Bytes.{get16}
-use Rattle.wire.specs.Cases.{by-test, never}
+use Rattle.wire.specs.Cases.{by-test, by-eq, never}
 use Rattle.records.specs.declared.Record.{Record}
 use Rattle.layout.specs.Capacities.{cells, classOf}
 use Rattle.layout.specs.CapacitiesLaws.{rising as rises}
 use Rattle.layout.specs.Zones.{Block, blocks, tags, hasTag}
 use Rattle.layout.specs.Perm.{Perm, In, Pairs, single, after}
-use Rattle.layout.specs.PermLaws.{pmap, pin, psym, all-in}
+use Rattle.layout.specs.PermLaws.{pmap, pin, psym, plength, all-in, in-all, pmembers}
 use Rattle.layout.specs.BuildingsLaws.{Tags}
 use Rattle.layout.specs.FindLaws.{by-tag, has-here, has-skip, find-none, lacks-has}
 use Rattle.layout.specs.EditsLaws.{empty-unknown}
@@ -80,21 +80,66 @@ module _ (h : List ℕ) (s : sound h ≡ true) where
   pub tag-small : (i : ℕ) → i < get16 h 0 → tagAt h i < 4294967296
   tag-small i g = all-in Small (record { tag = tagAt h i; cell = entryCell h i }) (entriesAt h 0 (get16 h 0)) entries-small (entry-in h 0 (get16 h 0) i (omega arith) (omega arith)) .tag
 
-  -- known to the layout, to the dictionary, or by its list
-  pub nonempty-has : (t : ℕ) → 0 < length (listOf h t) → hasTag t (blocks (decode h)) ≡ true
+  -- a new tag is one without a list
+  pub new-lacks : (t : ℕ) → listOf h t ≡ [] → hasTag t (blocks (decode h)) ≡ false
   unfolding listOf
-  nonempty-has t g = by-test (hasTag t (blocks (decode h))) (λ e. e) (λ e. absurd (omega (arith, ap length (find-none t (blocks (decode h)) (lacks-has t (blocks (decode h)) e)))))
+  new-lacks t e = empty-unknown (cells (stepOf h)) (classOf (stepOf h)) (rises (stepOf h)) (8 * pagesOf h) t (decode h) (sound-valid h s) e
 
-  pub has-nonempty : (t : ℕ) → hasTag t (blocks (decode h)) ≡ true → 0 < length (listOf h t)
+  pub lacks-new : (t : ℕ) → hasTag t (blocks (decode h)) ≡ false → listOf h t ≡ []
   unfolding listOf
-  has-nonempty t e = go (listOf h t) refl
-    where
-      go : (rs : List Record) → listOf h t ≡ rs → 0 < length rs
-      go [] q = never (sym (empty-unknown (cells (stepOf h)) (classOf (stepOf h)) (rises (stepOf h)) (8 * pagesOf h) t (decode h) (sound-valid h s) q) ∙ e)
-      go (r ∷ rs) q = omega arith
+  lacks-new t e = find-none t (blocks (decode h)) (lacks-has t (blocks (decode h)) e)
 
+  -- one with a list is in the dictionary, and no other
   pub listed-tag : (t : ℕ) → 0 < length (listOf h t) → In t (tagsOf h)
-  listed-tag t g = pin t (psym tags-perm) (has-in t (blocks (decode h)) (nonempty-has t g))
+  listed-tag t g = by-test (hasTag t (blocks (decode h)))
+      (λ e. pin t (psym tags-perm) (has-in t (blocks (decode h)) e))
+      (λ e. absurd (omega (arith, ap length (lacks-new t e))))
 
   pub tag-listed : (t : ℕ) → In t (tagsOf h) → 0 < length (listOf h t)
-  tag-listed t i = has-nonempty t (in-has t (blocks (decode h)) (pin t tags-perm i))
+  tag-listed t i = go (listOf h t) refl
+    where
+      go : (rs : List Record) → listOf h t ≡ rs → 0 < length rs
+      go [] q = never (sym (new-lacks t q) ∙ in-has t (blocks (decode h)) (pin t tags-perm i))
+      go (r ∷ rs) q = omega arith
+
+  tags-distinct : Pairs _≢_ (tagsOf h)
+  tags-distinct = rising-distinct (tagsOf h) tags-rise
+
+  pub tags-many : length (tagsOf h) ≡ length (blocks (decode h))
+  tags-many = plength tags-perm ∙ length-map (blocks (decode h)) (λ (b : Block). b .tag)
+
+  pub tags-few : length (tagsOf h) ≤ 256
+  tags-few = omega (arith, tags-many, sound-valid h s .few)
+
+-- ---- of two sound homes
+
+module _ (a b : List ℕ) (sa : sound a ≡ true) (sb : sound b ≡ true) where
+  -- in which the same tags have a list
+  pub same-tags : ((u : ℕ) → 0 < length (listOf a u) → 0 < length (listOf b u)) → ((u : ℕ) → 0 < length (listOf b u) → 0 < length (listOf a u)) → Perm (tagsOf a) (tagsOf b)
+  same-tags f g = pmembers (tagsOf a) (tagsOf b) (tags-distinct a sa) (tags-distinct b sb)
+      (λ u i. listed-tag b sb u (f u (tag-listed a sa u i)))
+      (λ u i. listed-tag a sa u (g u (tag-listed b sb u i)))
+
+  -- in the second of which tag t has one, and otherwise the same
+  pub one-more : (t : ℕ) → length (listOf a t) ≡ 0 → 0 < length (listOf b t) → ((u : ℕ) → u ≢ t → listOf b u ≡ listOf a u) → Perm (tagsOf b) (t ∷ tagsOf a)
+  one-more t nil some same = pmembers (tagsOf b) (t ∷ tagsOf a) (tags-distinct b sb) (after others (tags-distinct a sa)) to back
+    where
+      others : All (λ (u : ℕ). t ≢ u) (tagsOf a)
+      others = in-all (λ (u : ℕ). t ≢ u) (tagsOf a) (λ u i e. omega (arith, nil, tag-listed a sa u i, ap (λ (x : ℕ). length (listOf a x)) e))
+
+      to : (u : ℕ) → In u (tagsOf b) → In u (t ∷ tagsOf a)
+      to u i = by-eq u t (λ e. inl e) (λ d. inr (listed-tag a sa u (omega (arith, tag-listed b sb u i, ap length (same u d)))))
+
+      back : (u : ℕ) → In u (t ∷ tagsOf a) → In u (tagsOf b)
+      back u (inl e) = subst (λ (x : ℕ). In x (tagsOf b)) (sym e) (listed-tag b sb t some)
+      back u (inr i) = by-eq u t
+          (λ e. absurd (omega (arith, nil, tag-listed a sa u i, ap (λ (x : ℕ). length (listOf a x)) e)))
+          (λ d. listed-tag b sb u (omega (arith, tag-listed a sa u i, ap length (same u d))))
+
+-- a home without lists has no tags
+pub no-tags : (h : List ℕ) → sound h ≡ true → ((t : ℕ) → listOf h t ≡ []) → tagsOf h ≡ []
+no-tags h s f = go (tagsOf h) (λ t i. absurd (omega (arith, tag-listed h s t i, ap length (f t))))
+  where
+    go : (ts : List ℕ) → ((t : ℕ) → In t ts → ⊥) → ts ≡ []
+    go [] g = refl
+    go (t ∷ ts) g = absurd (g t (inl refl))

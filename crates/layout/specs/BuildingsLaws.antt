@@ -1,5 +1,5 @@
 -- What the buildings have together: tags and lack are the reserve, and what one tag more adds to it.
-use mathlib.Core.Path.{_≡_, refl, sym, ap, _∙_}
+use mathlib.Core.Path.{_≡_, refl, sym, ap, ap₂, _∙_}
 use mathlib.Core.Bool.{Bool, _&&_}
 use mathlib.Core.Logic.{_≢_}
 use mathlib.Core.List.{List, [], _∷_}
@@ -12,7 +12,7 @@ use Rattle.wire.specs.Cases.{by-eq, by-lt, leb-iff}
 use Rattle.wire.specs.All.{All, none, more}
 use Rattle.records.specs.Records.{tally}
 use Rattle.layout.specs.Perm.{Perm, sum}
-use Rattle.layout.specs.PermLaws.{psum}
+use Rattle.layout.specs.PermLaws.{plength, psum}
 use Rattle.layout.specs.Buildings.{building, upTo, owned, lack, reserve, buildingFull}
 
 -- ---- sums
@@ -96,6 +96,10 @@ tags-lack ts h =
     let s : sum (λ (b : ℕ). max 8 (owned b ts)) (upTo 16) ≡ sum (λ (b : ℕ). owned b ts + (8 - owned b ts)) (upTo 16) = sum-as (λ (b : ℕ). max 8 (owned b ts)) (λ (b : ℕ). owned b ts + (8 - owned b ts)) (λ b. omega arith) (upTo 16) in
     omega (arith, s, sum-both (λ (b : ℕ). owned b ts) (λ (b : ℕ). 8 - owned b ts) (upTo 16), owned-all ts h)
 
+-- while a building has fewer than 8, there are fewer tags than the reserve
+pub below-reserve : (t : ℕ) (ts : List ℕ) → t < 4294967296 → Tags ts → owned (building t) ts < 8 → length ts < reserve ts
+below-reserve t ts g h f = omega (arith, tags-lack (t ∷ ts) (more g h), reserve-below t ts g f)
+
 used-up : (ts : List ℕ) → Tags ts → length ts ≤ 256 → leb (256 - length ts) (lack ts) ≡ leb 256 (reserve ts)
 used-up ts h g = leb-iff (256 - length ts) (lack ts) 256 (reserve ts) (λ k. omega (arith, tags-lack ts h)) (λ k. omega (arith, tags-lack ts h))
 
@@ -132,14 +136,26 @@ full-beyond t ts h g =
 
 -- ---- in another order
 
-pub owned-perm : (b : ℕ) {xs ys : List ℕ} → Perm xs ys → owned b xs ≡ owned b ys
-unfolding owned
-owned-perm b p = psum (λ (t : ℕ). tally (eqb (building t) b)) p
+module _ {xs ys : List ℕ} (p : Perm xs ys) where
+  pub owned-perm : (b : ℕ) → owned b xs ≡ owned b ys
+  unfolding owned
+  owned-perm b = psum (λ (t : ℕ). tally (eqb (building t) b)) p
 
-pub reserve-perm : {xs ys : List ℕ} → Perm xs ys → reserve xs ≡ reserve ys
-unfolding reserve
-reserve-perm {xs} {ys} p = sum-as (λ (b : ℕ). max 8 (owned b xs)) (λ (b : ℕ). max 8 (owned b ys)) (λ b. ap (max 8) (owned-perm b p)) (upTo 16)
+  sum-perm : (m : ℕ → ℕ) → sum (λ (b : ℕ). m (owned b xs)) (upTo 16) ≡ sum (λ (b : ℕ). m (owned b ys)) (upTo 16)
+  sum-perm m = sum-as (λ (b : ℕ). m (owned b xs)) (λ (b : ℕ). m (owned b ys)) (λ b. ap m (owned-perm b)) (upTo 16)
 
-pub beyond-perm : {xs ys : List ℕ} → Perm xs ys → beyond xs ≡ beyond ys
-unfolding beyond
-beyond-perm {xs} {ys} p = sum-as (λ (b : ℕ). owned b xs - 8) (λ (b : ℕ). owned b ys - 8) (λ b. ap (λ (n : ℕ). n - 8) (owned-perm b p)) (upTo 16)
+  lack-perm : lack xs ≡ lack ys
+  unfolding lack
+  lack-perm = sum-perm (λ (n : ℕ). 8 - n)
+
+  pub reserve-perm : reserve xs ≡ reserve ys
+  unfolding reserve
+  reserve-perm = sum-perm (max 8)
+
+  pub beyond-perm : beyond xs ≡ beyond ys
+  unfolding beyond
+  beyond-perm = sum-perm (λ (n : ℕ). n - 8)
+
+  pub full-perm : (t : ℕ) → buildingFull t xs ≡ buildingFull t ys
+  unfolding buildingFull
+  full-perm t = ap₂ (λ (x y : Bool). x && y) (ap (leb 8) (owned-perm (building t))) (ap₂ leb (ap (λ (n : ℕ). 256 - n) (plength p)) lack-perm)

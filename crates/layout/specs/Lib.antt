@@ -12,7 +12,6 @@ pub mod ClassesLaws
 pub mod CapacitiesLaws
 pub mod PermLaws
 pub mod BuildingsLaws
-pub mod BuildingsExamples
 pub mod FindLaws
 pub mod PlaceLaws
 pub mod TakeLaws
@@ -27,3 +26,4 @@ pub mod ExactLaws
 pub mod OtherTable
 pub mod EditsLaws
 pub mod ValidLaws
+pub mod BuildingsExamples
