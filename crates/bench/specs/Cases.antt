@@ -21,6 +21,7 @@ use Rattle.log.specs.FormatLaws.{format-done}
 use Rattle.layout.specs.Capacities.{capacity, cells, classOf}
 use Rattle.layout.specs.Zones.{find, blocks, hasTag, rewritten, place, takeOut, settle, change}
 use Rattle.layout.specs.Sizes.{totalAfter}
+use Rattle.layout.specs.Buildings.{buildingFull}
 use Rattle.layout.specs.Valid.{valid}
 use Rattle.home.specs.Bytes.{stepOf, Spot, spots, encode, decode, zonesFrom}
 use Rattle.home.specs.Sound.{sound, sized, listOf}
@@ -221,7 +222,7 @@ formatted : (L : ℕ) → fresh L ≡ quick L
 formatted L = by-test (inRange L 2) (formats L) (refuses L)
 
 computed : follow quick expected nothing ≡ expected
-unfolding expected follow next result laid which mended seen quick used lent of putCall limitOf fullOf deleteCall dropCall countIn beginCall gateRules homeIn first letters home inRange headOk entry entries rising changes logged replay answer after headPage emptyImage zerosBut clearMark recoverStores logOk recoverRules recoverPlan logStores commitStores commitRules commitPlan apply run sized sound listOf valid decode zonesFrom encode spots settled put delete dropTag totalAfter change settle place takeOut rewritten hasTag find blocks classOf capacity cells key look insert remove risingFrom bytesOf recordAt records part over get16 get32 bytes16 bytes32 equal blank
+unfolding expected follow next result laid which mended seen quick used lent of putCall limitOf fullOf deleteCall dropCall countIn beginCall gateRules homeIn first letters home inRange headOk entry entries rising changes logged replay answer after headPage emptyImage zerosBut clearMark recoverStores logOk recoverRules recoverPlan logStores commitStores commitRules commitPlan apply run sized sound listOf valid decode zonesFrom encode spots settled put delete dropTag totalAfter buildingFull change settle place takeOut rewritten hasTag find blocks classOf capacity cells key look insert remove risingFrom bytesOf recordAt records part over get16 get32 bytes16 bytes32 equal blank
 computed = refl
 
 pub cases : table ≡ expected

@@ -17,7 +17,7 @@ use Rattle.layout.specs.Zones.{Block, blocks, tags}
 use Rattle.layout.specs.Perm.{Perm, pskip, pswap, ptrans, sum}
 use Rattle.layout.specs.PermLaws.{prefl, psym, plength, pall, pmap}
 use Rattle.layout.specs.Buildings.{building, upTo, owned, buildingFull}
-use Rattle.layout.specs.BuildingsLaws.{Tags, owned-more, owned-perm, beyond, beyond-more, beyond-perm, full-perm, full-beyond}
+use Rattle.layout.specs.BuildingsLaws.{Tags, owned-more, owned-perm, beyond, beyond-more, beyond-perm, full-perm, full-beyond, few-open}
 use Rattle.home.specs.Bytes.{Entry, decode, tagAt, entryCell, entriesAt, firstTags, tagsOf}
 use Rattle.home.specs.Sound.{sound}
 use Rattle.home.specs.SoundLaws.{sound-tags, sound-valid}
@@ -125,17 +125,14 @@ module _ (h : List ℕ) (b : ℕ) (s : sound h ≡ true) where
         fewer = omega (arith, k .fewer, at-most-one y z q);
       })
 
+-- too few tags
+pub few-counted : (h : List ℕ) (t : ℕ) → sound h ≡ true → t < 4294967296 → get16 h 0 < 136 → false ≡ buildingFull t (tags (blocks (decode h)))
+few-counted h t s g few = sym (few-open t (tags (blocks (decode h))) g (pall (λ (u : ℕ). u < 4294967296) (tags-perm h s) (tags-small h s)) (omega (arith, sound-tags h s, length-map (blocks (decode h)) (λ (b : Block). b .tag))))
+
 -- all tags counted
-module _ (h : List ℕ) (t own over i : ℕ) (s : sound h ≡ true) (k : Counting h (building t) own over i) (all : get16 h 0 ≤ i) where
-  counted : buildingFull t (tags (blocks (decode h))) ≡ (leb 8 own && leb 128 over)
-  counted =
-      let e : i ≡ get16 h 0 = omega (arith, k .under) in
-      let a : own ≡ owned (building t) (tagsOf h) = k .of-building ∙ ap (λ (j : ℕ). owned (building t) (firstTags h j)) e in
-      let b : over ≡ beyond (tagsOf h) = k .of-all ∙ ap (λ (j : ℕ). beyond (firstTags h j)) e in
-      full-perm (psym (tags-perm h s)) t ∙ full-beyond t (tagsOf h) (tags-small h s) (tags-few h s) ∙ sym (ap₂ (λ (x y : ℕ). leb 8 x && leb 128 y) a b)
-
-  pub count-eight : 8 ≤ own → leb 128 over ≡ buildingFull t (tags (blocks (decode h)))
-  count-eight g = sym (counted ∙ ap (λ (x : Bool). x && leb 128 over) (le-leb 8 own g))
-
-  pub count-fewer : own < 8 → leb 8 own ≡ buildingFull t (tags (blocks (decode h)))
-  count-fewer g = lt-leb 8 own g ∙ sym (counted ∙ ap (λ (x : Bool). x && leb 128 over) (lt-leb 8 own g))
+pub count-done : (h : List ℕ) (t own over i : ℕ) → sound h ≡ true → Counting h (building t) own over i → get16 h 0 ≤ i → (leb 8 own && leb 128 over) ≡ buildingFull t (tags (blocks (decode h)))
+count-done h t own over i s k all =
+    let e : i ≡ get16 h 0 = omega (arith, k .under) in
+    let a : own ≡ owned (building t) (tagsOf h) = k .of-building ∙ ap (λ (j : ℕ). owned (building t) (firstTags h j)) e in
+    let b : over ≡ beyond (tagsOf h) = k .of-all ∙ ap (λ (j : ℕ). beyond (firstTags h j)) e in
+    ap₂ (λ (x y : ℕ). leb 8 x && leb 128 y) a b ∙ sym (full-beyond t (tagsOf h) (tags-small h s) (tags-few h s)) ∙ full-perm (tags-perm h s) t

@@ -30,12 +30,16 @@ fn beyond_eighth(home: &[u8], i: usize) -> bool
     i >= 8 && building_at(home, i - 8) == building_at(home, i)
 }
 
-// Whether a tag's building may not add it: it has its 8, and the tags beyond the eighth of their building are all that 16 times 8 leave of 256.
+// Whether a tag's building may not add it: it has its 8, and as many tags are beyond the eighth of their building as 16 times 8 leave of 256.
+// That takes 8 and 128 tags, so that fewer than 136 are not looked at.
 pub fn building_full(home: &[u8], tag: u32) -> bool
     requires { ⌜ isSound (now home) ≡ true ⌝ }
     ensures { λ r. ⌜ r ≡ buildingFull tag (tags (blocks (decode (now (home .entry))))) ⌝ }
 {
     let n = wire::get16(home, 0);
+    if n < 136 {
+        return false;
+    }
     let mine = tag / PER_BUILDING;
     let mut own = 0;
     let mut beyond = 0;
@@ -45,5 +49,5 @@ pub fn building_full(home: &[u8], tag: u32) -> bool
         beyond += one_if(beyond_eighth(home, i));
         i += 1;
     }
-    own >= 8 && beyond >= 128
+    (own >= 8) & (beyond >= 128)
 }

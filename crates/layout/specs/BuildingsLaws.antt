@@ -1,14 +1,14 @@
 -- What the buildings have together: tags and lack are the reserve, and what one tag more adds to it.
 use mathlib.Core.Path.{_≡_, refl, sym, ap, ap₂, _∙_}
-use mathlib.Core.Bool.{Bool, _&&_}
+use mathlib.Core.Bool.{Bool, false, _&&_}
 use mathlib.Core.Logic.{_≢_}
 use mathlib.Core.List.{List, [], _∷_}
-use Prim.Native.Nat.{ℕ, zero, suc, _+_, _-_, _/_, _≤_, _<_, max}
+use Prim.Native.Nat.{ℕ, zero, suc, _+_, _-_, _/_, _≤_, _<_, min, max}
 use native.Mathlib.Omega.{arith}
 use lib.Dec.{leb, eqb}
 use lib.ListN.{length}
 use borrow.Author.Tests.{le-leb, lt-leb, eq-eqb, ne-eqb}
-use Rattle.wire.specs.Cases.{by-eq, by-lt, leb-iff}
+use Rattle.wire.specs.Cases.{by-eq, by-lt, and-false, leb-iff}
 use Rattle.wire.specs.All.{All, none, more}
 use Rattle.records.specs.Records.{tally}
 use Rattle.layout.specs.Perm.{Perm, sum}
@@ -26,6 +26,12 @@ sum-both : {A : Type 0} (f g : A → ℕ) (xs : List A) → sum (λ (x : A). f x
 unfolding sum
 sum-both f g [] = refl
 sum-both f g (x ∷ xs) = omega (arith, sum-both f g xs)
+
+-- one of them
+sum-least : (f : ℕ → ℕ) (b n : ℕ) → b < n → f b ≤ sum f (upTo n)
+unfolding sum upTo
+sum-least f b zero h = absurd (omega arith)
+sum-least f b (suc n) h = by-eq n b (λ e. omega (arith, ap f e)) (λ d. omega (arith, sum-least f b n (omega arith)))
 
 -- numbers that differ at b alone
 module _ (f g : ℕ → ℕ) (b : ℕ) (same : (i : ℕ) → i ≢ b → f i ≡ g i) where
@@ -133,6 +139,25 @@ pub full-beyond : (t : ℕ) (ts : List ℕ) → Tags ts → length ts ≤ 256 �
 full-beyond t ts h g =
     full-reserve t ts h g
     ∙ ap (λ (x : Bool). leb 8 (owned (building t) ts) && x) (leb-iff 256 (reserve ts) 128 (beyond ts) (λ k. omega (arith, beyond-reserve ts)) (λ k. omega (arith, beyond-reserve ts)))
+
+-- a building with 8 has them beside all tags beyond
+beyond-eight : (t : ℕ) (ts : List ℕ) → t < 4294967296 → Tags ts → 8 ≤ owned (building t) ts → beyond ts + 8 ≤ length ts
+unfolding beyond
+beyond-eight t ts g h k =
+    let parted : sum (λ (b : ℕ). owned b ts) (upTo 16) ≡ sum (λ (b : ℕ). (owned b ts - 8) + min 8 (owned b ts)) (upTo 16) = sum-as (λ (b : ℕ). owned b ts) (λ (b : ℕ). (owned b ts - 8) + min 8 (owned b ts)) (λ b. omega arith) (upTo 16) in
+    omega (
+      arith,
+      owned-all ts h,
+      parted,
+      sum-both (λ (b : ℕ). owned b ts - 8) (λ (b : ℕ). min 8 (owned b ts)) (upTo 16),
+      sum-least (λ (b : ℕ). min 8 (owned b ts)) (building t) 16 (small-building t g),
+    )
+
+-- so with fewer than 136 tags none is full
+pub few-open : (t : ℕ) (ts : List ℕ) → t < 4294967296 → Tags ts → length ts < 136 → buildingFull t ts ≡ false
+few-open t ts g h few = full-beyond t ts h (omega arith) ∙ by-lt (owned (building t) ts) 8
+    (λ k. ap (λ (x : Bool). x && leb 128 (beyond ts)) (lt-leb 8 (owned (building t) ts) k))
+    (λ k. ap (λ (x : Bool). leb 8 (owned (building t) ts) && x) (lt-leb 128 (beyond ts) (omega (arith, beyond-eight t ts g h k))) ∙ and-false (leb 8 (owned (building t) ts)))
 
 -- ---- in another order
 

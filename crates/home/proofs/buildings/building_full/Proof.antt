@@ -2,7 +2,7 @@ use Prim.Native.Nat.{_-_}
 use native.Mathlib.Omega.{arith}
 use Rattle.home.specs.LookupLaws.{entries-few}
 use Rattle.home.specs.LookupLoopLaws.{sound-ordered}
-use Rattle.home.specs.BuildingsLaws.{Counting, count-start, count-next, at-most-one, count-eight, count-fewer}
+use Rattle.home.specs.BuildingsLaws.{Counting, count-start, count-next, at-most-one, few-counted, count-done}
 use borrow.Author.Needs.{needs}
 use Rattle.home.proofs.buildings.building_full.Statement.{statement}
 use Rattle.home.proofs.buildings.building_full.Tie as tie
@@ -16,26 +16,29 @@ abbrev μ-loop : tie.MeasureT-loop
 get16-requires : tie.Need-get16-requires Inv-loop μ-loop
 get16-requires c κs = omega (arith, sound-ordered _ (c .before .pre) .long)
 
+returns : tie.Need-returns Inv-loop μ-loop
+returns c = few-counted _ _ (c .before .before .before .pre) (omega arith) (omega (arith, c .before .get16 .ensures .0))
+
 loop-holds : tie.Need-loop-holds Inv-loop μ-loop
-loop-holds c = count-start _ _ (c .before .before .pre)
+loop-holds c = count-start _ _ (c .before .before .before .pre)
 
 building-at-requires : tie.Need-building-at-requires Inv-loop μ-loop
-building-at-requires c κs = (sound-ordered _ (c .before .before .before .before .pre), omega (arith, c .before .before .get16 .ensures .0))
+building-at-requires c κs = (sound-ordered _ (c .before .before .before .before .before .pre), omega (arith, c .before .before .before .get16 .ensures .0))
 
 one-if-requires : tie.Need-one-if-requires Inv-loop μ-loop
 one-if-requires c κs = search needs
 
 add-own : tie.Need-add-own Inv-loop μ-loop
-add-own c = omega (arith, c .before .before .before .loop .inv .few, at-most-one _ _ (c .one-if .ensures), c .before .before .before .before .get16 .ensures .0, entries-few _ (c .before .before .before .before .before .before .pre) .0)
+add-own c = omega (arith, c .before .before .before .loop .inv .few, at-most-one _ _ (c .one-if .ensures), c .before .before .before .before .before .get16 .ensures .0, entries-few _ (c .before .before .before .before .before .before .before .pre) .0)
 
 beyond-eighth-requires : tie.Need-beyond-eighth-requires Inv-loop μ-loop
-beyond-eighth-requires c κs = (sound-ordered _ (c .before .before .before .before .before .before .pre), omega (arith, c .before .before .before .before .get16 .ensures .0))
+beyond-eighth-requires c κs = (sound-ordered _ (c .before .before .before .before .before .before .before .pre), omega (arith, c .before .before .before .before .before .get16 .ensures .0))
 
 one-if-requires-2 : tie.Need-one-if-requires-2 Inv-loop μ-loop
 one-if-requires-2 c κs = search needs
 
 add-beyond : tie.Need-add-beyond Inv-loop μ-loop
-add-beyond c = omega (arith, c .before .before .before .before .before .loop .inv .fewer, at-most-one _ _ (c .one-if2 .ensures), c .before .before .before .before .before .before .get16 .ensures .0, entries-few _ (c .before .before .before .before .before .before .before .before .pre) .0)
+add-beyond c = omega (arith, c .before .before .before .before .before .loop .inv .fewer, at-most-one _ _ (c .one-if2 .ensures), c .before .before .before .before .before .before .before .get16 .ensures .0, entries-few _ (c .before .before .before .before .before .before .before .before .before .pre) .0)
 
 add-i : tie.Need-add-i Inv-loop μ-loop
 add-i c = search needs
@@ -44,13 +47,10 @@ loop-less : tie.Need-loop-less Inv-loop μ-loop
 loop-less c = search needs
 
 loop-again : tie.Need-loop-again Inv-loop μ-loop
-loop-again c = count-next _ _ (c .before .before .before .before .before .before .before .before .pre) _ _ _ _ _ _ _ (c .before .before .before .before .before .loop .inv) (omega (arith, c .before .before .before .before .before .before .get16 .ensures .0)) (c .before .before .before .building-at .ensures) (c .before .before .one-if .ensures) (c .before .beyond-eighth .ensures) (c .one-if2 .ensures)
-
-returns : tie.Need-returns Inv-loop μ-loop
-returns c = count-eight _ _ _ _ _ (c .before .before .before .before .before .pre) (c .before .before .loop .inv) (omega (arith, c .before .before .before .get16 .ensures .0)) (omega arith)
+loop-again c = count-next _ _ (c .before .before .before .before .before .before .before .before .before .pre) _ _ _ _ _ _ _ (c .before .before .before .before .before .loop .inv) (omega (arith, c .before .before .before .before .before .before .before .get16 .ensures .0)) (c .before .before .before .building-at .ensures) (c .before .before .one-if .ensures) (c .before .beyond-eighth .ensures) (c .one-if2 .ensures)
 
 returns-2 : tie.Need-returns-2 Inv-loop μ-loop
-returns-2 c = count-fewer _ _ _ _ _ (c .before .before .before .before .before .pre) (c .before .before .loop .inv) (omega (arith, c .before .before .before .get16 .ensures .0)) (omega arith)
+returns-2 c = count-done _ _ _ _ _ (c .before .before .before .before .before .pre) (c .before .loop .inv) (omega (arith, c .before .before .before .get16 .ensures .0))
 
 pub building-full-spec : {M : Type 1} → statement M
 building-full-spec =
@@ -59,6 +59,7 @@ building-full-spec =
     Inv-loop
     μ-loop
     get16-requires
+    returns
     loop-holds
     building-at-requires
     one-if-requires
@@ -69,5 +70,4 @@ building-full-spec =
     add-i
     loop-less
     loop-again
-    returns
     returns-2)
