@@ -36,7 +36,8 @@ extern "C" {
 enum cix_kind { CIX_DONE = 0, CIX_CUT = 1, CIX_REFUSED = 2 };
 
 /* Where several apply, the one that comes first after `Refused:` at the call is given. That goes by place,
- * not by size: 17 stands after 8 and before 10. There is no 16. */
+ * not by size: 17 stands after 8 and before 10, 19 after 10 and 17 and before 11. There is no 16 and no
+ * 18. */
 enum cix_refusal {
     CIX_BAD_HEAD = 1,        /* the image's head or length is not right */
     CIX_BAD_MARK = 2,        /* no longer given */
@@ -53,7 +54,9 @@ enum cix_refusal {
     CIX_LOG_SHORT = 13,      /* commit: more pages differ than the log has entries */
     CIX_SIZES = 14,          /* format: sizes or step code out of range, or the length does not match */
     CIX_OUTPUT_SHORT = 15,   /* the output is shorter than the records to write */
-    CIX_PIT_FULL = 17        /* put from the pit: the list has 64 calls or more */
+    CIX_PIT_FULL = 17,       /* put from the pit: the list has 64 calls or more */
+    CIX_BUILDING_FULL = 19   /* put of a new tag: its building has 8 tags or more, and the unused tags are
+                              * kept for buildings that have fewer than 8 */
 };
 
 /* Step codes: how a block's capacity grows when its list does. By 31/20 fewer blocks move than by 25/21,
@@ -79,7 +82,11 @@ enum cix_step {
 #define CIX_ALL UINT32_MAX
 
 /* A record has 8 bytes: level (1), second (4), phone (2), minutes (1), most significant byte first.
- * Lists rise by level, then second, then phone. */
+ * Lists rise by level, then second, then phone.
+ *
+ * A tag is any number of 32 bits, whose top four name one of 16 buildings. There are at most 256 tags, and
+ * each building is sure of 8: one that has 8 or more may add a tag only while more are unused than the
+ * buildings below 8 still lack. */
 
 /* Makes the image an empty index of `entries` log entries and `pages` record pages, whose blocks grow
  * by `step`, one of enum cix_step, with at most `stores` stores. Done or cut, with the stores made.
@@ -92,12 +99,12 @@ uint64_t cix_format(uint8_t *image, size_t image_len, uint32_t entries, uint32_t
 uint64_t cix_begin(const uint8_t *image, size_t image_len, uint8_t *space, size_t space_len);
 
 /* Puts a record to a tag's list in the workspace. Done, with the list's count afterwards.
- * Refused: 6, 7, 8, 10, 11, 12. */
+ * Refused: 6, 7, 8, 10, 19, 11, 12. */
 uint64_t cix_put(uint8_t *space, size_t space_len, uint32_t tag, uint8_t level, uint32_t second,
                  uint16_t phone, uint8_t minutes);
 
 /* The same from the pit, which puts to lists of fewer than 64 records only, whoever put these.
- * Refused: 6, 7, 8, 17, 11, 12. */
+ * Refused: 6, 7, 8, 17, 19, 11, 12. */
 uint64_t cix_put_pit(uint8_t *space, size_t space_len, uint32_t tag, uint8_t level, uint32_t second,
                      uint16_t phone, uint8_t minutes);
 

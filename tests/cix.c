@@ -1,6 +1,6 @@
 /* Calls every function of cix.h: on no bytes at all, with lengths that are not true, through the
- * specification's bench cases, for ranks, from the pit, where all zones are laid out afresh, and with the
- * coarse step. */
+ * specification's bench cases, for ranks, from the pit, for tags of all buildings, where all zones are laid out
+ * afresh, and with the coarse step. */
 #include "cix.h"
 #include <stdio.h>
 #include <stdlib.h>
@@ -220,6 +220,71 @@ static void pit(void) {
     REFUSED(cix_put_pit(lists, sizeof lists, 7, 1, 99, 9, 0), CIX_UNSOUND_SPACE);
 }
 
+/* Puts a call to a building's tags from one number up to another, in turns from the desk and from the pit. */
+static void add(uint8_t *lists, size_t lists_len, uint32_t building, uint32_t from, uint32_t to) {
+    for (uint32_t n = from; n < to; n++) {
+        if (n % 2)
+            DONE(cix_put(lists, lists_len, building << 28 | n, 1, 100, 9, 0), 1);
+        else
+            DONE(cix_put_pit(lists, lists_len, building << 28 | n, 1, 100, 9, 0), 1);
+    }
+}
+
+/* 136 tags of one building leave 120, which are kept for the 15 others: with 135 it may add one, with 136 none. */
+static void buildings(void) {
+    static uint8_t tags[CIX_SPACE_BYTES(170)], before[sizeof tags];
+    add(tags, sizeof tags, 0, 0, 136);
+    for (uint32_t b = 1; b < 16; b++) {
+        memcpy(before, tags, sizeof tags);
+        REFUSED(cix_put(tags, sizeof tags, 136, 1, 100, 9, 0), CIX_BUILDING_FULL);
+        REFUSED(cix_put_pit(tags, sizeof tags, 136, 1, 100, 9, 0), CIX_BUILDING_FULL);
+        check("workspace", memcmp(before, tags, sizeof tags), 0, __LINE__);
+        add(tags, sizeof tags, b, 0, 8);
+        REFUSED(cix_put(tags, sizeof tags, b << 28 | 8, 1, 100, 9, 0), CIX_BUILDING_FULL);
+        REFUSED(cix_put_pit(tags, sizeof tags, b << 28 | 8, 1, 100, 9, 0), CIX_BUILDING_FULL);
+    }
+    DONE(cix_put(tags, sizeof tags, 0, 1, 101, 9, 0), 2);
+    DONE(cix_put_pit(tags, sizeof tags, 0, 1, 102, 9, 0), 3);
+    REFUSED(cix_put(tags, sizeof tags, 0, 1, 102, 9, 0), CIX_LISTED);
+    DONE(cix_drop_tag(tags, sizeof tags, 15u << 28), 0);
+    REFUSED(cix_put(tags, sizeof tags, 136, 1, 100, 9, 0), CIX_BUILDING_FULL);
+    DONE(cix_put_pit(tags, sizeof tags, 15u << 28, 1, 100, 9, 0), 1);
+    DONE(cix_delete(tags, sizeof tags, 7, 1, 100, 9), 0);
+    DONE(cix_put(tags, sizeof tags, 15u << 28 | 8, 1, 100, 9, 0), 1);
+    REFUSED(cix_put(tags, sizeof tags, 7, 1, 100, 9, 0), CIX_BUILDING_FULL);
+}
+
+/* The same in 680 cells, which 136 tags fill: the building is told first that its part is used up. */
+static void buildings_without_room(void) {
+    static uint8_t tags[CIX_SPACE_BYTES(85)];
+    add(tags, sizeof tags, 3, 0, 136);
+    REFUSED(cix_put(tags, sizeof tags, 3u << 28 | 136, 1, 100, 9, 0), CIX_BUILDING_FULL);
+    REFUSED(cix_put_pit(tags, sizeof tags, 3u << 28 | 136, 1, 100, 9, 0), CIX_BUILDING_FULL);
+    REFUSED(cix_put(tags, sizeof tags, 4u << 28, 1, 100, 9, 0), CIX_NO_ROOM);
+    REFUSED(cix_put_pit(tags, sizeof tags, 4u << 28, 1, 100, 9, 0), CIX_NO_ROOM);
+}
+
+/* 256 tags of one building, as only an older image has them. */
+static void older_tags(void) {
+    static uint8_t tags[CIX_SPACE_BYTES(160)];
+    tags[0] = tags[4] = 1;
+    for (uint32_t n = 0; n < 256; n++) {
+        uint8_t *entry = tags + 128 + 6 * n, *block = tags + 1664 + 40 * n;
+        entry[3] = block[3] = (uint8_t)n;
+        entry[4] = (uint8_t)(5 * n >> 8);
+        entry[5] = (uint8_t)(5 * n);
+        block[5] = 1;
+    }
+    DONE(cix_count_space(tags, sizeof tags, 255), 1);
+    REFUSED(cix_put(tags, sizeof tags, 256, 0, 0, 0, 0), CIX_BUILDING_FULL);
+    REFUSED(cix_put_pit(tags, sizeof tags, 256, 0, 0, 0, 0), CIX_BUILDING_FULL);
+    REFUSED(cix_put(tags, sizeof tags, 5u << 28, 0, 0, 0, 0), CIX_TAGS_FULL);
+    REFUSED(cix_put_pit(tags, sizeof tags, 5u << 28, 0, 0, 0, 0), CIX_TAGS_FULL);
+    DONE(cix_drop_tag(tags, sizeof tags, 255), 0);
+    REFUSED(cix_put(tags, sizeof tags, 255, 0, 0, 0, 0), CIX_BUILDING_FULL);
+    DONE(cix_put_pit(tags, sizeof tags, 5u << 28, 0, 0, 0, 0), 1);
+}
+
 /* A commit cut in the middle of its mark, which then holds neither 0 nor 165. */
 static void spoiled_mark(void) {
     DONE(cix_format(IMAGE, ENTRIES, PAGES, CIX_STEP_FINE, CIX_ALL), sizeof image + 1);
@@ -315,6 +380,9 @@ int main(void) {
     cuts();
     ranks();
     pit();
+    buildings();
+    buildings_without_room();
+    older_tags();
     spoiled_mark();
     laid_afresh();
     no_codes();

@@ -92,9 +92,10 @@ pub enum Refusal {
     Sizes = 14,
     OutputShort = 15,
     PitFull = 17,
+    BuildingFull = 19,
 }
 
-const REFUSALS: [(Refusal, &str); 16] = [
+const REFUSALS: [(Refusal, &str); 17] = [
     (Refusal::BadHead, "the image's head or length is not right"),
     (Refusal::BadMark, "no longer given"),
     (Refusal::Unrecovered, "the image's mark is not 0: recover first"),
@@ -111,6 +112,7 @@ const REFUSALS: [(Refusal, &str); 16] = [
     (Refusal::Sizes, "sizes or step code out of range, or the length does not match"),
     (Refusal::OutputShort, "the output is shorter than the records to write"),
     (Refusal::PitFull, "the list has 64 calls or more"),
+    (Refusal::BuildingFull, "the unused tags are kept for buildings that have fewer than 8"),
 ];
 
 fn refusal(number: u32) -> &'static (Refusal, &'static str) {
@@ -118,7 +120,7 @@ fn refusal(number: u32) -> &'static (Refusal, &'static str) {
 }
 
 impl Refusal {
-    /// Its number, 1 to 15 or 17.
+    /// Its number: 1 to 15, 17 or 19.
     pub fn number(self) -> u8 {
         self as u8
     }
@@ -222,6 +224,32 @@ pub fn begin(image: &[u8], space: &mut [u8]) -> Result<()> {
 ///     assert!(cix::records(cix::show_space(&space, tag)).eq((1..=6).map(call)));
 /// }
 /// assert_eq!(cix::put(&mut space, 13, call(1)), Err(Refusal::NoRoom));
+/// # Ok::<(), Refusal>(())
+/// ```
+///
+/// The top four bits of a tag name one of 16 buildings, and each is sure of 8 of the 256 tags. One that has 8 or
+/// more may add a tag only while more are unused than the buildings below 8 still lack; otherwise the put is
+/// [`Refusal::BuildingFull`]. So [`Refusal::TagsFull`] is met on older images only.
+///
+/// ```
+/// use cix::{Record, Refusal};
+///
+/// let mut space = vec![0; cix::space_bytes(170)];
+/// let call = Record { level: 1, second: 100, phone: 9, minutes: 0 };
+/// for n in 0..136 {
+///     assert_eq!(cix::put(&mut space, n, call), Ok(1)); // 120 are unused now, and 15 buildings lack 8 each
+/// }
+/// assert_eq!(cix::put(&mut space, 136, call), Err(Refusal::BuildingFull));
+/// assert_eq!(cix::put_pit(&mut space, 136, call), Err(Refusal::BuildingFull));
+/// assert_eq!(cix::put(&mut space, 0, Record { second: 101, ..call }), Ok(2));
+/// for n in 0..8 {
+///     assert_eq!(cix::put(&mut space, 5 << 28 | n, call), Ok(1));
+/// }
+/// assert_eq!(cix::put(&mut space, 5 << 28 | 8, call), Err(Refusal::BuildingFull));
+/// cix::drop_tag(&mut space, 0)?;
+/// assert_eq!(cix::put(&mut space, 5 << 28 | 8, call), Ok(1));
+/// assert_eq!(Refusal::BuildingFull.number(), 19);
+/// assert_eq!(Refusal::BuildingFull.to_string(), "the unused tags are kept for buildings that have fewer than 8");
 /// # Ok::<(), Refusal>(())
 /// ```
 pub fn put(space: &mut [u8], tag: u32, r: Record) -> Result<u32> {

@@ -3,6 +3,7 @@
 //! is tried, and the program `calls` is held against the model too.
 mod afresh;
 mod book;
+mod buildings;
 mod calls;
 mod caught;
 mod input;
@@ -15,6 +16,8 @@ mod ranks;
 mod spoiled;
 mod steps;
 
+use afresh::refusal;
+use buildings::tag;
 use model::Of;
 use pair::{Pair, Terminal, Told};
 use random::Random;
@@ -45,6 +48,11 @@ fn main() {
     pit::cases(&mut tally);
     let closed = pit::turns(calls / 200, &mut rng, &mut tally);
     println!("turns of desk and pit: {closed} puts from the pit meet 17, and only the desk goes above 64");
+    buildings::cases(&mut tally);
+    let (kept, full) = buildings::homes(calls / 5000, &mut rng, &mut tally);
+    println!("homes of all buildings: {kept} puts of a new tag meet 19, and {full} on older images meet 11");
+    let met: u64 = (0..2).map(|step| buildings::turns(calls / 2500, step, &mut rng, &mut tally)).sum();
+    println!("turns of 16 buildings: {met} puts meet 19, none of a building below 8, and none meets 11");
     afresh::cases(&mut tally);
     let laid = afresh::nearly_full(calls / 10, &mut rng, &mut tally);
     println!("nearly full areas: {laid} puts laid all zones out afresh, 12 only where they do not fit");
@@ -75,7 +83,7 @@ fn main() {
     println!("same answers and bytes in all, {:.1} s", start.elapsed().as_secs_f64());
     assert_eq!(tally.refused[2], 0, "refusal 2 is no longer given");
     if calls >= 1_000_000 {
-        assert!((1..=15).chain([17]).all(|n| n == 2 || tally.refused[n] > 0), "a refusal was never met");
+        assert!((1..=15).chain([17, 19]).all(|n| n == 2 || tally.refused[n] > 0), "a refusal was never met");
     }
 }
 
@@ -83,23 +91,24 @@ fn main() {
 pub struct Tally {
     calls: u64,
     images: u64,
-    refused: [u64; 18],
+    refused: [u64; 20],
 }
 
-/// A list of 989 records and one more, 256 tags and one more.
+/// A list of 989 records and one more, 256 tags of all buildings and one more.
 fn limits(step: u32, tally: &mut Tally) {
     let mut p = Pair::begun(1024, step, tally);
-    for i in 0..991u32 {
-        let s = (i.min(989) * 7919 % 100_003).to_be_bytes();
-        p.put(7, [1, s[0], s[1], s[2], s[3], 0, 9, 0], tally);
+    for i in 0..990u32 {
+        let s = (i * 7919 % 100_003).to_be_bytes();
+        let refused = refusal(tally, |t| p.put(7, [1, s[0], s[1], s[2], s[3], 0, 9, 0], t));
+        assert_eq!(refused, (i == 989).then_some(10), "record {i}");
     }
-    for tag in 8..=264 {
-        p.put(tag, [1, 0, 0, 0, 1, 0, 9, 0], tally);
+    for i in 1..=256 {
+        let refused = refusal(tally, |t| p.put(tag(i as usize % 16, 7 + i), [1, 0, 0, 0, 1, 0, 9, 0], t));
+        assert_eq!(refused, (i == 256).then_some(19), "tag {i} beside the first");
     }
-    p.put(7, [1, 0, 0, 0, 0, 0, 9, 5], tally);
+    assert_eq!(refusal(tally, |t| p.put(7, [1, 0, 0, 0, 0, 0, 9, 5], t)), Some(8));
     p.commit(cix::ALL, Told::Stood, tally);
     p.count(Of::Image, 7, tally);
-    assert!(tally.refused[8] > 0 && tally.refused[10] > 0 && tally.refused[11] > 0);
 }
 
 // ---- random calls
@@ -123,11 +132,14 @@ fn one_image(rng: &mut Random, tally: &mut Tally) {
     p.open_book();
     let long = pages > 200 && rng.one_in(2);
     let pit = (9..65).contains(&pages) && rng.one_in(2);
-    // One list of hundreds of records, one that the pit keeps at about 64, or any. So many of 16 puts are the desk's.
+    // One list of hundreds of records, one that the pit keeps at about 64, more tags than there may be, of three
+    // buildings or of all, or any. So many of 16 puts are the desk's.
     let (tags, seconds, desk) = if long {
         (1, 3000, 15)
     } else if pit {
         (1, [20, 200][rng.below(2) as usize], 2)
+    } else if pages >= 85 && rng.one_in(2) {
+        ([300, 1600][rng.below(2) as usize], 3, 8)
     } else {
         ([1, 2, 3, 6, 20, 300][rng.below(6) as usize], [3, 20, 200, 2000][rng.below(4) as usize], 8)
     };

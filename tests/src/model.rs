@@ -74,6 +74,11 @@ pub struct Home {
     pub afresh: bool,
 }
 
+/// The top four bits of a tag.
+fn building(tag: u32) -> usize {
+    (tag >> 28) as usize
+}
+
 /// The byte of home that is the step code.
 pub const STEP: usize = 122;
 const DICTIONARY: usize = 128;
@@ -194,6 +199,18 @@ impl Home {
 
     fn tags(&self) -> usize {
         self.zones.iter().map(|z| z.blocks.len()).sum()
+    }
+
+    /// Whether a tag's building may add one: surely while it has fewer than 8, otherwise only while the unused tags
+    /// exceed what the buildings below 8 still lack.
+    fn may_add(&self, tag: u32) -> bool {
+        let mut owned = [0usize; 16];
+        for block in self.zones.iter().flat_map(|z| &z.blocks) {
+            owned[building(block.tag)] += 1;
+        }
+        let unused = 256 - self.tags();
+        let lack: usize = owned.iter().map(|&n| 8usize.saturating_sub(n)).sum();
+        owned[building(tag)] < 8 || unused > lack
     }
 
     /// The class and number of a tag's block.
@@ -355,6 +372,7 @@ fn put_below(limit: usize, full: u8, space: &mut [u8], tag: u32, r: Rec) -> Coun
         match list.binary_search_by(|x| primary(x).cmp(primary(&r))) {
             Ok(_) => Err(8),
             Err(_) if list.len() >= limit => Err(full),
+            Err(_) if list.is_empty() && !home.may_add(tag) => Err(19),
             Err(_) if list.is_empty() && home.tags() == 256 => Err(11),
             Err(i) => Ok(list.insert(i, r)),
         }

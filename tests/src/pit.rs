@@ -2,6 +2,7 @@
 //! the desk and the pit on one image.
 use crate::afresh::refusal;
 use crate::book::changed;
+use crate::buildings::{built, tag, OLDER};
 use crate::model::Rec;
 use crate::pair::Terminal::{Desk, Pit};
 use crate::pair::{Pair, Terminal, Told};
@@ -10,7 +11,7 @@ use crate::steps::nth;
 use crate::Tally;
 
 /// Puts a record: the list's count afterwards, or the refusal.
-fn put(p: &mut Pair, by: Terminal, tag: u32, r: Rec, tally: &mut Tally) -> Result<u32, usize> {
+pub fn put(p: &mut Pair, by: Terminal, tag: u32, r: Rec, tally: &mut Tally) -> Result<u32, usize> {
     let refused = refusal(tally, |t| p.put_by(by, tag, r, t));
     refused.map_or(Ok(cix::count_space(&p.space, tag).unwrap()), Err)
 }
@@ -69,15 +70,18 @@ fn no_room(tally: &mut Tally) {
     assert_eq!(put(&mut p, Pit, 7, nth(71), tally), Err(17));
 }
 
-/// A list of 989 and 256 tags: what is 10 from the desk is 17 from the pit, 8 and 11 are the same.
+/// A list of 989 and 256 tags, of all buildings or, on an older image, of one: what is 10 from the desk is 17 from
+/// the pit; 8, 19 and 11 are the same.
 pub fn limits(step: u32, tally: &mut Tally) {
-    let mut p = Pair::begun(300, step, tally);
-    grow(&mut p, Desk, 7, 989, tally);
-    (8..263).for_each(|tag| grow(&mut p, Pit, tag, 1, tally));
-    for (by, full) in [(Desk, 10), (Pit, 17)] {
-        assert_eq!(put(&mut p, by, 7, nth(990), tally), Err(full));
-        assert_eq!(put(&mut p, by, 7, nth(989), tally), Err(8));
-        assert_eq!(put(&mut p, by, 6, nth(1), tally), Err(11));
+    for (owned, other) in [([16; 16], 19), (OLDER, 11)] {
+        let mut p = built(owned, 300, step, tally);
+        grow(&mut p, Desk, 7, 989, tally);
+        for (by, full) in [(Desk, 10), (Pit, 17)] {
+            assert_eq!(put(&mut p, by, 7, nth(990), tally), Err(full));
+            assert_eq!(put(&mut p, by, 7, nth(989), tally), Err(8));
+            assert_eq!(put(&mut p, by, tag(0, 256), nth(1), tally), Err(19));
+            assert_eq!(put(&mut p, by, tag(9, 256), nth(1), tally), Err(other));
+        }
     }
 }
 

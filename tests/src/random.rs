@@ -24,11 +24,11 @@ impl Random {
         self.below(n) == 0
     }
 
-    /// One of so many tags; 0 and the highest are among them.
+    /// One of so many tags, up to 1,600; 0 and the highest are among them. Each hundred is of another building.
     pub fn tag(&mut self, tags: u32) -> u32 {
         match self.below(tags) {
             1 => u32::MAX,
-            t => t * 3,
+            t => t / 100 << 28 | t * 3,
         }
     }
 
