@@ -445,6 +445,17 @@ fn write_block(h: &mut [u8], cell: usize, size: usize, tag: u32, list: &[u8]) {
     b[8 + list.len()..].fill(0);
 }
 
+/// Whether a new tag's building has 8 tags or more, and no more are unused than the buildings below 8 lack.
+fn building_full(h: &[u8], tag: u32) -> bool {
+    let tags = two(h, 0);
+    let mut owned = [0usize; 16];
+    for e in h[DICTIONARY..DICTIONARY + 6 * tags].chunks_exact(6) {
+        owned[e[0] as usize >> 4] += 1;
+    }
+    let lack: usize = owned.iter().map(|&n| 8usize.saturating_sub(n)).sum();
+    owned[tag as usize >> 28] >= 8 && 256 - tags <= lack
+}
+
 /// Adds a tag as the i-th, with its block.
 fn add_tag(h: &mut [u8], i: usize, cell: usize, size: usize, tag: u32, list: &[u8]) {
     let (entry, tags) = (DICTIONARY + 6 * i, two(h, 0));
@@ -483,8 +494,10 @@ pub fn put_by(space: &mut [u8], tag: u32, r: [u8; 8]) -> Result<(u32, Way), u8> 
     let slot = find(space, tag);
     let Ok(i) = slot else {
         let i = slot.unwrap_err();
-        let tags = two(space, 0);
-        if tags == 256 {
+        if building_full(space, tag) {
+            return Err(19);
+        }
+        if two(space, 0) == 256 {
             return Err(11);
         }
         let mut t = table(space);

@@ -23,6 +23,7 @@ fn main() {
     against_sqlite(repeats);
     by_size(repeats);
     ranks(repeats);
+    new_tag(repeats);
     laid_afresh(repeats);
     placing(repeats);
     moves::table();
@@ -120,6 +121,11 @@ struct Bench {
     rng: Random,
 }
 
+/// The i-th tag: each building has 16.
+fn tag(i: u32) -> u32 {
+    i / 16 << 28 | 7 * i
+}
+
 /// The cells up to the last that is not zero.
 fn used(space: &[u8]) -> usize {
     (space.len() - space.iter().rev().take_while(|x| **x == 0).count()).saturating_sub(1664).div_ceil(8)
@@ -149,7 +155,7 @@ fn filled_with(tags: u32, pages: u32, fill: Fill) -> Bench {
     };
     let mut refused = 0;
     while used(&b.space) < cells && refused < 100 {
-        let (tag, call) = (7 * b.rng.below(tags), b.rng.call());
+        let (tag, call) = (tag(b.rng.below(tags)), b.rng.call());
         if cix::put(&mut b.space, tag, call).is_ok() {
             b.calls.push((tag, call));
             refused = 0;
@@ -203,7 +209,7 @@ fn puts(b: &mut Bench) -> Vec<(u32, Record)> {
     let mut image = b.image.clone();
     let mut row = Vec::new();
     for _ in 0..200 {
-        let (tag, call) = (7 * b.rng.below(b.tags), b.rng.call());
+        let (tag, call) = (tag(b.rng.below(b.tags)), b.rng.call());
         cix::begin(&image, &mut b.space).unwrap();
         if cix::put(&mut b.space, tag, call).is_ok() {
             cix::commit(&mut image, &b.space, cix::ALL).unwrap();
@@ -443,6 +449,32 @@ fn race_on(start: &[u8], edits: &[Edit], repeats: usize) -> Race {
     Race(race.0.iter().map(|t| t.iter().map(|x| x - t[0]).collect()).collect())
 }
 
+// ---- a new tag
+
+fn new_tag(repeats: usize) {
+    println!("\nPuts of a new tag beside 250 lists of one record, of all buildings, in microseconds\n");
+    println!("| R | put | soundness test | difference | by hand |");
+    println!("|---|---|---|---|---|");
+    let call = Record { level: 1, second: 100, phone: 9, minutes: 0 };
+    for pages in [256, 1024] {
+        let mut space = vec![0; cix::space_bytes(pages)];
+        (0..250).for_each(|i| assert_eq!(cix::put(&mut space, tag(i), call), Ok(1)));
+        let new = 8 << 28;
+        assert!(way(&space, (new, call)) == Some(Way::Placed), "the put is not done");
+        let race = race_on(
+            &space,
+            &[
+                &|space| assert_eq!(cix::put(space, new, call), Ok(1)),
+                &|space| assert_eq!(hand::put(space, new, bytes(call)), Ok(1)),
+            ],
+            repeats,
+        );
+        let times = [race.time(2), race.time(1), race.above(2, 1), race.time(3)];
+        let [put, sound, edit, hand] = times.map(|t| t / 1000.0);
+        println!("| {pages} | {put:.2} | {sound:.2} | {edit:.2} | {hand:.2} |");
+    }
+}
+
 // ---- zones laid out afresh
 
 /// A full workspace, and puts on it: one that lays all zones out afresh, one that changes its list's class
@@ -472,13 +504,13 @@ fn edge(b: &mut Bench) -> Edge {
             let (tag, call) = b.calls.swap_remove(i);
             cix::delete(&mut b.space, tag, call).unwrap();
         }
-        let put = (7 * b.rng.below(b.tags), b.rng.call());
+        let put = (tag(b.rng.below(b.tags)), b.rng.call());
         let Some(done) = way(&b.space, put) else { continue };
         let space = b.space.clone();
         cix::put(&mut b.space, put.0, put.1).unwrap();
         b.calls.push(put);
         if done == Way::Afresh {
-            let listed = (0..b.tags).map(|t| 7 * t).filter(|&t| cix::count_space(&space, t) != Ok(0));
+            let listed = (0..b.tags).map(tag).filter(|&t| cix::count_space(&space, t) != Ok(0));
             let puts: Vec<_> = listed.map(|t| (t, put.1)).collect();
             let first = |w| puts.iter().copied().find(|&put| way(&space, put) == Some(w));
             if let (Some(placed), Some(kept)) = (first(Way::Placed), first(Way::Kept)) {

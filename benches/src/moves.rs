@@ -1,7 +1,7 @@
 //! How many blocks move as lists grow, with either step: the same puts, counted from outside. A block has moved
 //! if its cell in the dictionary is another one after the put.
 use crate::hand::{self, Way};
-use crate::{way, Random};
+use crate::{tag, way, Random};
 use cix::{Record, Step};
 use std::collections::BTreeMap;
 
@@ -12,9 +12,9 @@ const TAGS: u32 = 200;
 fn puts(first: u32) -> Vec<(u32, Record)> {
     let mut rng = Random(7);
     let mut puts = Vec::new();
-    for tag in 1..=TAGS {
-        let records = if tag <= first { 989 } else { 900 / tag };
-        puts.extend((0..records).map(|_| (tag, rng.call())));
+    for t in 1..=TAGS {
+        let records = if t <= first { 989 } else { 900 / t };
+        puts.extend((0..records).map(|_| (tag(t), rng.call())));
     }
     for i in (1..puts.len()).rev() {
         puts.swap(i, rng.below(i as u32 + 1) as usize);
