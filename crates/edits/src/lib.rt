@@ -129,7 +129,7 @@ fn put_new(home: &mut [u8], tag: u32, r: Record) -> Answer
     }
 }
 
-// Puts a record to a tag's list. Refused: 8, listed already; 10, 989 records, or 17, 64 records for the pit; 19, the tag's building is full; 11, 256 tags; 12, no room.
+// Puts a record to a tag's list. Refused: 8, listed already; 10, 989 records, or 17, 64 records for the pit; 19, its building is full; 11, 256 tags; 12, no room.
 pub fn put(home: &mut [u8], by: Terminal, tag: u32, r: Record) -> Answer
     requires { ⌜ sound (now home) ≡ true ⌝ }
     ensures { λ a. ⌜ a ≡ answered Answer.Refused (putIn by (now (home .entry)) tag r) ⌝ }

@@ -11,7 +11,7 @@ ghost use Rattle.home.specs.Bytes.{decode, tagAt, firstTags};
 ghost use Rattle.home.specs.Sound.{sound as isSound};
 ghost use Rattle.home.specs.Lookup.{Ordered};
 
-// How many tags have one building's number, the top four bits.
+// The tags of one building: its number is their top four bits.
 const PER_BUILDING: u32 = 268435456;
 
 // The building of the i-th entry.
@@ -30,8 +30,8 @@ fn beyond_eighth(home: &[u8], i: usize) -> bool
     i >= 8 && building_at(home, i - 8) == building_at(home, i)
 }
 
-// Whether a tag's building may not add it: it has its 8, and as many tags are beyond the eighth of their building as 16 times 8 leave of 256.
-// That takes 8 and 128 tags, so that fewer than 136 are not looked at.
+// Whether a tag's building may not add it: it has 8 or more, and 128 tags, all that 16 times 8 leave of 256, are beyond the eighth of theirs.
+// That takes 136 tags; fewer are not looked at.
 pub fn building_full(home: &[u8], tag: u32) -> bool
     requires { ⌜ isSound (now home) ≡ true ⌝ }
     ensures { λ r. ⌜ r ≡ buildingFull tag (tags (blocks (decode (now (home .entry))))) ⌝ }

@@ -53,7 +53,7 @@ pub fn put_by(space: &mut [u8], by: Terminal, tag: u32, r: Record) -> Answer
     }
 }
 
-// Puts a record from the desk. Refused after 6 and 7: 8, listed already; 10, 989 records; 11, 256 tags; 12, no room.
+// Puts a record from the desk. Refused after 6 and 7: 8, listed already; 10, 989 records; 19, its building is full; 11, 256 tags; 12, no room.
 pub fn put(space: &mut [u8], tag: u32, r: Record) -> Answer
     ensures { λ a. ⌜ a ≡ answered Answer.Refused (putCall Terminal.Desk (now (space .entry)) tag r) ⌝ }
     ensures { λ _. ⌜ now (space .exit) ≡ left (putCall Terminal.Desk (now (space .entry)) tag r) (now (space .entry)) ⌝ }
@@ -61,7 +61,7 @@ pub fn put(space: &mut [u8], tag: u32, r: Record) -> Answer
     put_by(space, Terminal::Desk, tag, r)
 }
 
-// Puts a record from the pit. Refused after 6 and 7: 8, listed already; 17, 64 records; 11, 256 tags; 12, no room.
+// Puts a record from the pit. Refused after 6 and 7: 8, listed already; 17, 64 records; 19, its building is full; 11, 256 tags; 12, no room.
 pub fn put_pit(space: &mut [u8], tag: u32, r: Record) -> Answer
     ensures { λ a. ⌜ a ≡ answered Answer.Refused (putCall Terminal.Pit (now (space .entry)) tag r) ⌝ }
     ensures { λ _. ⌜ now (space .exit) ≡ left (putCall Terminal.Pit (now (space .entry)) tag r) (now (space .entry)) ⌝ }
