@@ -9,7 +9,7 @@ use lib.Dec.{leb}
 use lib.ListN.{length}
 use borrow.Author.Tests.{leb-true, leb-false, le-leb, lt-leb, not-true}
 use Rattle.wire.specs.All.{All, all-map}
-use Rattle.wire.specs.Cases.{by-test, by-lt, by-eq, both, and-true, never}
+use Rattle.wire.specs.Cases.{by-lt, by-eq, both, and-true, never}
 use Rattle.records.specs.declared.Record.{Record}
 use Rattle.records.specs.Records.{remove, amend}
 use Rattle.redo.specs.Image.{mark, home, inRange, imageLength}
@@ -17,14 +17,13 @@ use Rattle.log.specs.Calls.{after}
 use Rattle.log.specs.Claim.{Starts}
 use Rattle.layout.specs.Zones.{blocks, tags, hasTag}
 use Rattle.layout.specs.Perm.{Perm, sum}
-use Rattle.layout.specs.PermLaws.{psym, pall}
+use Rattle.layout.specs.PermLaws.{psym}
 use Rattle.layout.specs.Buildings.{building, upTo, owned, lack, reserve, buildingFull}
-use Rattle.layout.specs.BuildingsLaws.{tags-lack, full-reserve, full-perm, below-reserve, owned-perm, reserve-perm, reserve-below, reserve-above, reserve-more}
+use Rattle.layout.specs.BuildingsLaws.{tags-lack, full-reserve, full-perm, below-reserve, reserve-perm, reserve-below, reserve-above, reserve-more}
 use Rattle.home.specs.declared.Answer.{Answer}
 use Rattle.home.specs.declared.Answer.the-variants.{Count, Refused}
 use Rattle.home.specs.Bytes.{decode, tagsOf}
 use Rattle.home.specs.Sound.{sound, listOf}
-use Rattle.home.specs.SoundLaws.{sound-valid}
 use Rattle.home.specs.TagsLaws.{tags-perm, tags-small, tags-many, tags-few, new-lacks, lacks-new, same-tags, one-more, no-tags}
 use Rattle.edits.specs.declared.Terminal.{Terminal}
 use Rattle.index.specs.Calls.{formatPlan}
@@ -32,7 +31,7 @@ use Rattle.demands.specs.Lists.{formatted-sound, formatted-empty, format
 use Rattle.demands.specs.Effects.{Done, Effect, edit-effect}
 use Rattle.demands.specs.Puts.{new-free, part-refused, refused-part, entry-refused, refused-entry, by-room, done-part}
 use Rattle.demands.specs.Sequences.{Edit, put, delete, setMinutes, dropTag, answerOf, made, tagOf, listBy, Ranged, Event, RangedIn, events, through, Turn, afterTurns, allEvents}
-use Rattle.demands.specs.SequencesLaws.{edit-sound, events-keep, turns-keep}
+use Rattle.demands.specs.SequencesLaws.{events-keep, turns-keep}
 
 -- ---- the reserve
 
@@ -232,6 +231,9 @@ sure v (f, g) =
 -- over every sequence of edits
 pub sure-through : (w : List ℕ) → Fair w → (es : List Edit) → All RangedIn (events es w) → All Sure (events es w) × Fair (through es w)
 sure-through w f es c = let k = events-keep Fair RangedIn stays-fair es w f c in (all-map sure (k .0), k .1)
+
+pub sure-from-empty : (w : List ℕ) → sound w ≡ true → ((t : ℕ) → listOf w t ≡ []) → (es : List Edit) → All RangedIn (events es w) → All Sure (events es w) × Fair (through es w)
+sure-from-empty w s f = sure-through w (record { fine = s; within = omega (arith, empty-reserve w s f) })
 
 -- and over turns at an image, wherever their commits and recoveries are cut and caught
 pub sure-turns : (l : List ℕ) → Starts sound l → Fair (home l) → (us : List Turn) → All RangedIn (allEvents us l) → All Sure (allEvents us l) × (mark (afterTurns us l) ≡ 0 → Fair (home (afterTurns us l)))

@@ -77,8 +77,11 @@ module _ (by : Terminal) (w : List ℕ) (t : ℕ) (r : Record) where
   abbrev behindLimit : List Rule → List Rule
   behindLimit us = gateRules Space w ++ (rule 8 listed ∷ rule (fullOf by) closed ∷ us)
 
+  abbrev rest : List Rule
+  rest = rule 19 noPart ∷ rule 11 noEntry ∷ rule 12 noRoom ∷ []
+
   abbrev rules : List Rule
-  rules = behindLimit (rule 19 noPart ∷ rule 11 noEntry ∷ rule 12 noRoom ∷ [])
+  rules = behindLimit rest
 
   -- ---- its refusals
 
@@ -106,13 +109,13 @@ module _ (by : Terminal) (w : List ℕ) (t : ℕ) (r : Record) where
   -- "It refuses with 17 a pit put to a list of 64 or more, after 8"; and the desk's to one of 989 with 10
   pub closed-refused : Closed → answerOf (put by t r) w ≡ Refused (fullOf by)
   unfolding gateRules first
-  closed-refused c = tells (fullOf by) (refused-first beforeLimit (fullOf by) closed (rule 19 noPart ∷ rule 11 noEntry ∷ rule 12 noRoom ∷ []) (passed-both (gateRules Space w) (rule 8 listed ∷ []) (space-opens w (c .fine)) ∙ passed-one 8 listed [] (c .new)) (le-leb (limitOf by) (length (listOf w t)) (c .many)))
+  closed-refused c = tells (fullOf by) (refused-first beforeLimit (fullOf by) closed rest (passed-both (gateRules Space w) (rule 8 listed ∷ []) (space-opens w (c .fine)) ∙ passed-one 8 listed [] (c .new)) (le-leb (limitOf by) (length (listOf w t)) (c .many)))
 
   -- and none else
   pub refused-closed : answerOf (put by t r) w ≡ Refused (fullOf by) → Closed
   unfolding gateRules numbers
   refused-closed e =
-      let o = refused-only beforeLimit (fullOf by) closed (rule 19 noPart ∷ rule 11 noEntry ∷ rule 12 noRoom ∷ []) (limit-apart by .0) (limit-apart by .1) (told (fullOf by) e) in
+      let o = refused-only beforeLimit (fullOf by) closed rest (limit-apart by .0) (limit-apart by .1) (told (fullOf by) e) in
       let p = passes-both (gateRules Space w) (rule 8 listed ∷ []) (o .0) in
       record { fine = space-open w (p .0); new = passes 8 listed [] (p .1) .0; many = leb-true (limitOf by) (length (listOf w t)) (o .1) }
 
@@ -199,9 +202,6 @@ module _ (by : Terminal) (w : List ℕ) (t : ℕ) (r : Record) where
 
   -- ---- where it is done
 
-  abbrev behindRoom : List Rule
-  behindRoom = rule 19 noPart ∷ rule 11 noEntry ∷ rule 12 noRoom ∷ []
-
   -- where no rule applies it answers one record more
   pub passed-done : refusal rules ≡ none → answerOf (put by t r) w ≡ Count (suc (length (listOf w t)))
   unfolding editCall putCall putBy listOf
@@ -212,7 +212,7 @@ module _ (by : Terminal) (w : List ℕ) (t : ℕ) (r : Record) where
   unfolding first
   by-room c p e = by-test noRoom
       (λ q. inr (no-room-refused (record { free = c; part = p; entry = e; more = ltb-true (8 * pagesOf w) (totalAfter (stepOf w) t (insert r (listOf w t)) (decode w)) q })))
-      (λ q. inl (passed-done (free-passes c behindRoom ∙ passed-one 19 noPart (rule 11 noEntry ∷ rule 12 noRoom ∷ []) p ∙ passed-one 11 noEntry (rule 12 noRoom ∷ []) e ∙ passed-one 12 noRoom [] q)))
+      (λ q. inl (passed-done (free-passes c rest ∙ passed-one 19 noPart (rule 11 noEntry ∷ rule 12 noRoom ∷ []) p ∙ passed-one 11 noEntry (rule 12 noRoom ∷ []) e ∙ passed-one 12 noRoom [] q)))
 
   done-passed : (n : ℕ) → answerOf (put by t r) w ≡ Count n → refusal rules ≡ none
   unfolding editCall putCall putBy listOf refusedWith rulesOf ofAnswer
@@ -223,11 +223,11 @@ module _ (by : Terminal) (w : List ℕ) (t : ℕ) (r : Record) where
   done-open n e =
       let q = done-passed n e in
       let m : Count n ≡ Count (suc (length (listOf w t))) = sym e ∙ passed-done q in
-      (cc, passes-free behindRoom q .0 .few)
+      (cc, passes-free rest q .0 .few)
 
   -- and a new tag was in the part of its building
   pub done-part : (n : ℕ) → answerOf (put by t r) w ≡ Count n → noPart ≡ false
-  done-part n e = passes 19 noPart (rule 11 noEntry ∷ rule 12 noRoom ∷ []) (passes-free behindRoom (done-passed n e) .1) .0
+  done-part n e = passes 19 noPart (rule 11 noEntry ∷ rule 12 noRoom ∷ []) (passes-free rest (done-passed n e) .1) .0
 
 -- ---- "The desk still goes to 989"
 

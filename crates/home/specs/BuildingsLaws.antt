@@ -3,26 +3,25 @@ use mathlib.Core.Path.{_≡_, refl, sym, ap, ap₂, _∙_, subst}
 use mathlib.Core.Bool.{Bool, true, false, _&&_}
 use mathlib.Core.Logic.{_≢_}
 use mathlib.Core.List.{List, [], _∷_}
-use Prim.Native.Nat.{ℕ, zero, suc, _+_, _-_, _*_, _/_, _≤_, _<_}
+use Prim.Native.Nat.{ℕ, zero, suc, _+_, _-_, _≤_, _<_}
 use native.Mathlib.Omega.{arith}
 use lib.Dec.{leb, eqb}
-use lib.ListN.{length, length-map}
+use lib.ListN.{length-map}
 use borrow.Author.Tests.{le-leb, lt-leb, eq-eqb, ne-eqb}
-use Rattle.wire.specs.All.{All, none, more}
+use Rattle.wire.specs.All.{more}
 use Rattle.wire.specs.Bytes.{get16}
-use Rattle.wire.specs.Cases.{by-lt, by-eq}
+use Rattle.wire.specs.Cases.{by-eq}
 use Rattle.records.specs.Records.{tally}
 use Rattle.records.specs.Order.{tally-small}
 use Rattle.layout.specs.Zones.{Block, blocks, tags}
 use Rattle.layout.specs.Perm.{Perm, pskip, pswap, ptrans, sum}
-use Rattle.layout.specs.PermLaws.{prefl, psym, plength, pall, pmap}
+use Rattle.layout.specs.PermLaws.{prefl, pall, pmap}
 use Rattle.layout.specs.Buildings.{building, upTo, owned, buildingFull}
-use Rattle.layout.specs.BuildingsLaws.{Tags, owned-more, owned-perm, beyond, beyond-more, beyond-perm, full-perm, full-beyond, few-open}
+use Rattle.layout.specs.BuildingsLaws.{owned-more, owned-perm, beyond, beyond-more, beyond-perm, full-perm, full-beyond, few-open}
 use Rattle.home.specs.Bytes.{Entry, decode, tagAt, entryCell, entriesAt, firstTags, tagsOf}
 use Rattle.home.specs.Sound.{sound}
-use Rattle.home.specs.SoundLaws.{sound-tags, sound-valid}
+use Rattle.home.specs.SoundLaws.{sound-tags}
 use Rattle.home.specs.Lookup.{Ordered}
-use Rattle.home.specs.LookupLoopLaws.{sound-ordered}
 use Rattle.home.specs.TagsLaws.{tags-perm, tags-small, tags-few, tag-small}
 
 -- ---- an entry more
