@@ -36,26 +36,17 @@ use Rattle.demands.specs.Refusals.{edit, rulesOf, ofAnswer, refusedWith}
 use Rattle.demands.specs.RefusalsLaws.{refused-exactly}
 use Rattle.demands.specs.Sequences.{put, editCall, answerOf}
 
--- each number is that of one rule
+-- each number is that of one rule: the limit's
 limit-apart : (by : Terminal) → All (λ (m : ℕ). eqb m (fullOf by) ≡ false) (6 ∷ 7 ∷ 8 ∷ []) × All (λ (m : ℕ). eqb m (fullOf by) ≡ false) (19 ∷ 11 ∷ 12 ∷ [])
 unfolding fullOf
 limit-apart Desk = (more refl (more refl (more refl nothing)), more refl (more refl (more refl nothing)))
 limit-apart Pit = (more refl (more refl (more refl nothing)), more refl (more refl (more refl nothing)))
 
-part-apart : (by : Terminal) → All (λ (m : ℕ). eqb m 19 ≡ false) (6 ∷ 7 ∷ 8 ∷ fullOf by ∷ [])
+-- the others', apart from those before them
+apart : (by : Terminal) (n : ℕ) (ms : List ℕ) → All (λ (m : ℕ). eqb m n ≡ false) (6 ∷ 7 ∷ 8 ∷ 10 ∷ 17 ∷ ms) → All (λ (m : ℕ). eqb m n ≡ false) (6 ∷ 7 ∷ 8 ∷ fullOf by ∷ ms)
 unfolding fullOf
-part-apart Desk = more refl (more refl (more refl (more refl nothing)))
-part-apart Pit = more refl (more refl (more refl (more refl nothing)))
-
-entry-apart : (by : Terminal) → All (λ (m : ℕ). eqb m 11 ≡ false) (6 ∷ 7 ∷ 8 ∷ fullOf by ∷ 19 ∷ [])
-unfolding fullOf
-entry-apart Desk = more refl (more refl (more refl (more refl (more refl nothing))))
-entry-apart Pit = more refl (more refl (more refl (more refl (more refl nothing))))
-
-room-apart : (by : Terminal) → All (λ (m : ℕ). eqb m 12 ≡ false) (6 ∷ 7 ∷ 8 ∷ fullOf by ∷ 19 ∷ 11 ∷ [])
-unfolding fullOf
-room-apart Desk = more refl (more refl (more refl (more refl (more refl (more refl nothing)))))
-room-apart Pit = more refl (more refl (more refl (more refl (more refl (more refl nothing)))))
+apart Desk n ms (more a (more b (more c (more d (more e h))))) = more a (more b (more c (more d h)))
+apart Pit n ms (more a (more b (more c (more d (more e h))))) = more a (more b (more c (more e h)))
 
 module _ (by : Terminal) (w : List ℕ) (t : ℕ) (r : Record) where
   abbrev listed : Bool
@@ -85,7 +76,7 @@ module _ (by : Terminal) (w : List ℕ) (t : ℕ) (r : Record) where
 
   -- ---- its refusals
 
-  pub tells : (n : ℕ) → refusal rules ≡ some n → answerOf (put by t r) w ≡ Refused n
+  tells : (n : ℕ) → refusal rules ≡ some n → answerOf (put by t r) w ≡ Refused n
   unfolding editCall putCall putBy listOf
   tells n q = first-refused Refused rules n _ q
 
@@ -155,7 +146,7 @@ module _ (by : Terminal) (w : List ℕ) (t : ℕ) (r : Record) where
   pub refused-part : answerOf (put by t r) w ≡ Refused 19 → Free × (noPart ≡ true)
   unfolding gateRules numbers
   refused-part e =
-      let o = refused-only (behindLimit []) 19 noPart (rule 11 noEntry ∷ rule 12 noRoom ∷ []) (part-apart by) (more refl (more refl nothing)) (told 19 e) in
+      let o = refused-only (behindLimit []) 19 noPart (rule 11 noEntry ∷ rule 12 noRoom ∷ []) (apart by 19 [] (more refl (more refl (more refl (more refl (more refl nothing)))))) (more refl (more refl nothing)) (told 19 e) in
       (passes-free [] (o .0) .0, o .1)
 
   -- a new tag where 256 are
@@ -166,7 +157,7 @@ module _ (by : Terminal) (w : List ℕ) (t : ℕ) (r : Record) where
   pub refused-entry : answerOf (put by t r) w ≡ Refused 11 → Free × (noPart ≡ false) × (noEntry ≡ true)
   unfolding gateRules numbers
   refused-entry e =
-      let o = refused-only (behindLimit (rule 19 noPart ∷ [])) 11 noEntry (rule 12 noRoom ∷ []) (entry-apart by) (more refl nothing) (told 11 e) in
+      let o = refused-only (behindLimit (rule 19 noPart ∷ [])) 11 noEntry (rule 12 noRoom ∷ []) (apart by 11 (19 ∷ []) (more refl (more refl (more refl (more refl (more refl (more refl nothing))))))) (more refl nothing) (told 11 e) in
       let p = passes-free (rule 19 noPart ∷ []) (o .0) in
       (p .0, passes 19 noPart [] (p .1) .0, o .1)
 
@@ -190,7 +181,7 @@ module _ (by : Terminal) (w : List ℕ) (t : ℕ) (r : Record) where
   pub refused-no-room : answerOf (put by t r) w ≡ Refused 12 → NoRoom
   unfolding gateRules numbers
   refused-no-room e =
-      let o = refused-only (behindLimit beforeRoom) 12 noRoom [] (room-apart by) nothing (told 12 e) in
+      let o = refused-only (behindLimit beforeRoom) 12 noRoom [] (apart by 12 (19 ∷ 11 ∷ []) (more refl (more refl (more refl (more refl (more refl (more refl (more refl nothing)))))))) nothing (told 12 e) in
       let p = passes-free beforeRoom (o .0) in
       let a = passes 19 noPart (rule 11 noEntry ∷ []) (p .1) in
       record {
