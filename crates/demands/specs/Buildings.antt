@@ -135,33 +135,33 @@ module _ (by : Terminal) (w : List ℕ) (f : Fair w) (t : ℕ) (small : t < 4294
 
 -- ---- which every edit keeps
 
+-- where all tags but t read the same, those with a list still have one if t has
+still-listed : (t : ℕ) (a b : List ℕ) → ((u : ℕ) → u ≢ t → listOf b u ≡ listOf a u) → (0 < length (listOf a t) → 0 < length (listOf b t)) → (u : ℕ) → 0 < length (listOf a u) → 0 < length (listOf b u)
+still-listed t a b same f u k = by-eq u t
+    (λ e. subst (λ (x : ℕ). 0 < length (listOf b x)) (sym e) (f (subst (λ (x : ℕ). 0 < length (listOf a x)) e k)))
+    (λ o. subst (λ (x : List Record). 0 < length x) (sym (same u o)) k)
+
 -- an edit that is done, and adds no tag beyond the part of its building
 module _ (w w' : List ℕ) (t : ℕ) (rs : List Record) (n : ℕ) (d : Done w w' t rs n) (small : t < 4294967296) (adds : listOf w t ≡ [] → 0 < length rs → buildingFull t (tags (blocks (decode w))) ≡ false) where
-  was : ℕ
+  abbrev was : ℕ
   was = length (listOf w t)
 
-  is : ℕ
+  abbrev is : ℕ
   is = length (listOf w' t)
 
   -- a tag with a list before it and after it, or at neither time
   alike : (0 < was → 0 < is) → (0 < is → 0 < was) → reserve (tagsOf w') ≡ reserve (tagsOf w)
-  unfolding was is
-  alike f g = reserve-perm (same-tags w' w (d .fine) (d .was)
-      (λ u k. by-eq u t (λ e. subst (λ (x : ℕ). 0 < length (listOf w x)) (sym e) (g (subst (λ (x : ℕ). 0 < length (listOf w' x)) e k))) (λ o. subst (λ (x : List Record). 0 < length x) (d .others u o) k))
-      (λ u k. by-eq u t (λ e. subst (λ (x : ℕ). 0 < length (listOf w' x)) (sym e) (f (subst (λ (x : ℕ). 0 < length (listOf w x)) e k))) (λ o. subst (λ (x : List Record). 0 < length x) (sym (d .others u o)) k)))
+  alike f g = reserve-perm (same-tags w' w (d .fine) (d .was) (still-listed t w' w (λ u o. sym (d .others u o)) g) (still-listed t w w' (d .others) f))
 
   -- a tag that was new
   added : was ≡ 0 → 0 < is → Perm (tagsOf w') (t ∷ tagsOf w)
-  unfolding was is
   added e g = one-more w w' (d .was) (d .fine) t e g (d .others)
 
   -- a tag that lost its list
   gone : 0 < was → is ≡ 0 → Perm (tagsOf w) (t ∷ tagsOf w')
-  unfolding was is
   gone g e = one-more w' w (d .fine) (d .was) t e g (λ u o. sym (d .others u o))
 
   added-within : was ≡ 0 → 0 < is → reserve (tagsOf w) ≤ 256 → reserve (tagsOf w') ≤ 256
-  unfolding was is
   added-within e g k = by-lt (owned (building t) (tagsOf w)) 8
       (λ f. omega (arith, reserve-perm (added e g), reserve-below t (tagsOf w) small f))
       (λ f.

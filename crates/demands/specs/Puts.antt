@@ -16,13 +16,13 @@ use Rattle.records.specs.declared.Record.{Record}
 use Rattle.records.specs.Records.{key, look, held, insert}
 use Rattle.layout.specs.Zones.{blocks, tags, hasTag}
 use Rattle.layout.specs.Buildings.{buildingFull}
-use Rattle.layout.specs.FindLaws.{find-none, lacks-has}
 use Rattle.layout.specs.Edits.{put as putBy}
 use Rattle.layout.specs.EditsLaws.{length-insert}
 use Rattle.home.specs.declared.Answer.the-variants.{Count, Refused}
 use Rattle.home.specs.Layout.{totalAfter}
 use Rattle.home.specs.Bytes.{stepOf, decode}
 use Rattle.home.specs.Sound.{sound, pagesOf, listOf}
+use Rattle.home.specs.TagsLaws.{lacks-new}
 use Rattle.edits.specs.declared.Terminal.{Terminal}
 use Rattle.edits.specs.declared.Terminal.the-variants.{Desk, Pit}
 use Rattle.edits.specs.Edits.{limitOf, fullOf}
@@ -131,11 +131,11 @@ module _ (by : Terminal) (w : List ℕ) (t : ℕ) (r : Record) where
       let b = passes (fullOf by) closed us (a .1) in
       (record { fine = space-open w (p .0); new = a .0; few = leb-false (limitOf by) (length (listOf w t)) (b .0) }, b .1)
 
-  -- a list of a new tag is
+  -- so it is for a new tag
   pub new-free : sound w ≡ true → hasTag t (blocks (decode w)) ≡ false → Free
-  unfolding listOf look
+  unfolding look
   new-free s lacking =
-      let e : listOf w t ≡ [] = find-none t (blocks (decode w)) (lacks-has t (blocks (decode w)) lacking) in
+      let e : listOf w t ≡ [] = lacks-new w s t lacking in
       record { fine = s; new = rw e refl; few = rw e (limit-some by) }
 
   -- a new tag beyond the part of its building
@@ -194,7 +194,7 @@ module _ (by : Terminal) (w : List ℕ) (t : ℕ) (r : Record) where
   -- ---- where it is done
 
   -- where no rule applies it answers one record more
-  pub passed-done : refusal rules ≡ none → answerOf (put by t r) w ≡ Count (suc (length (listOf w t)))
+  passed-done : refusal rules ≡ none → answerOf (put by t r) w ≡ Count (suc (length (listOf w t)))
   unfolding editCall putCall putBy listOf
   passed-done q = first-passed Refused rules (Count (length (insert r (listOf w t)))) q ∙ ap Count (length-insert r (listOf w t))
 

@@ -29,13 +29,13 @@ use Rattle.layout.specs.Sizes.{blockSize, totalAfter as totalAfterBy}
 use Rattle.layout.specs.AfreshLaws.{size-some}
 use Rattle.layout.specs.Edits.{Edit, recordRules, put as putBy, delete, setMinutes, dropTag}
 use Rattle.layout.specs.CapacitiesLaws.{rising as rises}
-use Rattle.layout.specs.EditsLaws.{length-amend, exactly, had-size, total-low, empty-unknown}
+use Rattle.layout.specs.EditsLaws.{length-amend, exactly, had-size, total-low}
 use Rattle.home.specs.HomeLaws.{all-mem}
 use Rattle.home.specs.Bytes.{stepOf, decode}
 use Rattle.home.specs.Sound.{sound, pagesOf, listOf}
 use Rattle.home.specs.Lookup.{blockOf}
 use Rattle.home.specs.TagBlockLaws.{list-none}
-use Rattle.layout.specs.FindLaws.{find-none, lacks-has}
+use Rattle.home.specs.TagsLaws.{new-lacks, lacks-new}
 use Rattle.home.specs.declared.Answer.{Answer}
 use Rattle.home.specs.declared.Answer.the-variants.{Count, Refused}
 use Rattle.layout.specs.Valid.{Proper}
@@ -208,12 +208,12 @@ unfolding inserted recordBytes
 inserted-alone l r e = over-whole (up l (8 * 0)) (bytesOf r) (length-bytesOf r ∙ sym (length-up l (8 * 0) ∙ e)) ∙ sym (append-nil (bytesOf r))
 
 pub absent-new : (h : List ℕ) (t : ℕ) → sound h ≡ true → blockOf h t ≡ Unknown → hasTag t (blocks (decode h)) ≡ false
-unfolding listOf
-absent-new h t s e = empty-unknown (cells (stepOf h)) (classOf (stepOf h)) (rises (stepOf h)) (8 * pagesOf h) t (decode h) (sound-valid h s) (list-none h t s e)
+absent-new h t s e = new-lacks h s t (list-none h t s e)
 
 module _ (h : List ℕ) (t : ℕ) (s : sound h ≡ true) (no : hasTag t (blocks (decode h)) ≡ false) where
   nothing-found : find t (blocks (decode h)) ≡ []
-  nothing-found = find-none t (blocks (decode h)) (lacks-has t (blocks (decode h)) no)
+  unfolding listOf
+  nothing-found = lacks-new h s t no
 
   nothing-held : (k : ℕ) → held (look k (find t (blocks (decode h)))) ≡ false
   unfolding look

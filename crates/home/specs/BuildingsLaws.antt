@@ -6,38 +6,36 @@ use mathlib.Core.List.{List, [], _∷_}
 use Prim.Native.Nat.{ℕ, zero, suc, _+_, _-_, _≤_, _<_}
 use native.Mathlib.Omega.{arith}
 use lib.Dec.{leb, eqb}
-use lib.ListN.{length-map}
 use borrow.Author.Tests.{le-leb, lt-leb, eq-eqb, ne-eqb}
 use Rattle.wire.specs.All.{more}
 use Rattle.wire.specs.Bytes.{get16}
 use Rattle.wire.specs.Cases.{by-eq}
 use Rattle.records.specs.Records.{tally}
 use Rattle.records.specs.Order.{tally-small}
-use Rattle.layout.specs.Zones.{Block, blocks, tags}
+use Rattle.layout.specs.Zones.{blocks, tags}
 use Rattle.layout.specs.Perm.{Perm, pskip, pswap, ptrans, sum}
-use Rattle.layout.specs.PermLaws.{prefl, pall, pmap}
+use Rattle.layout.specs.PermLaws.{prefl, pmap}
 use Rattle.layout.specs.Buildings.{building, upTo, owned, buildingFull}
 use Rattle.layout.specs.BuildingsLaws.{owned-more, owned-perm, beyond, beyond-more, beyond-perm, full-perm, full-beyond, few-open}
 use Rattle.home.specs.Bytes.{Entry, decode, tagAt, entryCell, entriesAt, firstTags, tagsOf}
 use Rattle.home.specs.Sound.{sound}
 use Rattle.home.specs.SoundLaws.{sound-tags}
 use Rattle.home.specs.Lookup.{Ordered}
-use Rattle.home.specs.TagsLaws.{tags-perm, tags-small, tags-few, tag-small}
+use Rattle.home.specs.TagsLaws.{tags-perm, tags-small, tags-many, tags-few, tag-small}
 
 -- ---- an entry more
 
-entry : List ℕ → ℕ → Entry
+abbrev entry : List ℕ → ℕ → Entry
 entry h i = record { tag = tagAt h i; cell = entryCell h i }
 
 entries-more : (h : List ℕ) (i n : ℕ) → Perm (entriesAt h i (suc n)) (entry h (i + n) ∷ entriesAt h i n)
-unfolding entriesAt entry
+unfolding entriesAt
 entries-more h i zero = let e : i + 0 ≡ i = omega arith in rw e (prefl (entry h i ∷ []))
 entries-more h i (suc n) =
     let e : i + suc n ≡ suc i + n = omega arith in
     rw e (ptrans (pskip (entry h i) (entries-more h (suc i) n)) (pswap (entry h i) (entry h (suc i + n)) (entriesAt h (suc i) n)))
 
 first-more : (h : List ℕ) (i : ℕ) → Perm (firstTags h (suc i)) (tagAt h i ∷ firstTags h i)
-unfolding entry
 first-more h i = let e : 0 + i ≡ i = omega arith in subst (λ (k : ℕ). Perm (firstTags h (suc i)) (tagAt h k ∷ firstTags h i)) e (pmap (λ (d : Entry). d .tag) (entries-more h 0 i))
 
 module _ (h : List ℕ) where
@@ -72,18 +70,16 @@ module _ (h : List ℕ) where
 
   -- an entry is beyond the eighth of its building where the one eight places before it is of the same building, for between the two stands no other
   module _ (o : Ordered h) where
-    at : ℕ → ℕ
+    abbrev at : ℕ → ℕ
     at i = building (tagAt h i)
 
     rise : (i j : ℕ) → i ≤ j → j < get16 h 0 → at i ≤ at j
-    unfolding at
     rise i j g b = by-eq i j (λ e. omega (arith, ap (tagAt h) e)) (λ d. omega (arith, o .rise i j (omega arith) b))
 
     pub early : (i : ℕ) → i < 8 → leb 8 i ≡ leb 8 (of (building (tagAt h i)) i)
     early i g = let e : 0 + i ≡ i = omega arith in lt-leb 8 i g ∙ sym (lt-leb 8 (of (building (tagAt h i)) i) (omega (arith, of-few (building (tagAt h i)) 0 i, of-nil (building (tagAt h i)), ap (of (building (tagAt h i))) e)))
 
     pub eight-before : (i : ℕ) → 8 ≤ i → i < get16 h 0 → eqb (building (tagAt h (i - 8))) (building (tagAt h i)) ≡ leb 8 (of (building (tagAt h i)) i)
-    unfolding at
     eight-before i g b = by-eq (at (i - 8)) (at i)
         (λ e.
         let q : i - 8 + 8 ≡ i = omega arith in
@@ -126,7 +122,7 @@ module _ (h : List ℕ) (b : ℕ) (s : sound h ≡ true) where
 
 -- too few tags
 pub few-counted : (h : List ℕ) (t : ℕ) → sound h ≡ true → t < 4294967296 → get16 h 0 < 136 → false ≡ buildingFull t (tags (blocks (decode h)))
-few-counted h t s g few = sym (few-open t (tags (blocks (decode h))) g (pall (λ (u : ℕ). u < 4294967296) (tags-perm h s) (tags-small h s)) (omega (arith, sound-tags h s, length-map (blocks (decode h)) (λ (b : Block). b .tag))))
+few-counted h t s g few = sym (few-open t (tagsOf h) g (tags-small h s) (omega (arith, sound-tags h s, tags-many h s))) ∙ full-perm (tags-perm h s) t
 
 -- all tags counted
 pub count-done : (h : List ℕ) (t own over i : ℕ) → sound h ≡ true → Counting h (building t) own over i → get16 h 0 ≤ i → (leb 8 own && leb 128 over) ≡ buildingFull t (tags (blocks (decode h)))

@@ -15,7 +15,7 @@ use Rattle.layout.specs.Perm.{Perm, pnil, pskip, pswap, ptrans, In, Pairs, sing
 use Rattle.layout.specs.Valid.{Other}
 use Rattle.home.specs.Bytes.{Spot, row, spots, Entry, entryOf, enter, sorted, dictionary}
 use Rattle.layout.specs.Cases.{by-pick}
-use Rattle.layout.specs.PermLaws.{prefl, psym, plength, pall, all-zip, ppairs, pin, pulled, keep-in}
+use Rattle.layout.specs.PermLaws.{prefl, psym, plength, pall, all-zip, ppairs, pin, pulled, keep-in, pairs-mapped, pairs-unmapped}
 
 -- entries of different tags, and of rising tags
 abbrev pub Else : Entry → Entry → Type 0
@@ -139,21 +139,12 @@ spots-blocks step c [] = refl
 spots-blocks step c (empty ∷ zs) = spots-blocks step (suc c) zs
 spots-blocks step c (from f x xs ∷ zs) = map-append (λ (s : Spot). s .block) (row step c f (x ∷ xs)) (spots step (suc c) zs) ∙ ap₂ (λ (l r : List Block). l ++ r) (row-blocks step c f (x ∷ xs)) (spots-blocks step (suc c) zs)
 
-else-of : (s : Spot) (ss : List Spot) → All (Other (s .block)) (map (λ (r : Spot). r .block) ss) → All (Else (entryOf s)) (map entryOf ss)
-else-of s [] h = none
-else-of s (r ∷ ss) (more o h) = more o (else-of s ss h)
-
+-- blocks of different tags have entries of different tags, and the other way round
 pub pairs-of : (ss : List Spot) → Pairs Other (map (λ (s : Spot). s .block) ss) → Pairs Else (map entryOf ss)
-pairs-of [] h = single
-pairs-of (s ∷ ss) (after a h) = after (else-of s ss a) (pairs-of ss h)
-
-other-of : (s : Spot) (ss : List Spot) → All (Else (entryOf s)) (map entryOf ss) → All (Other (s .block)) (map (λ (r : Spot). r .block) ss)
-other-of s [] h = none
-other-of s (r ∷ ss) (more o h) = more o (other-of s ss h)
+pairs-of ss h = pairs-mapped entryOf Else ss (pairs-unmapped (λ (s : Spot). s .block) Other ss h)
 
 distinct-of : (ss : List Spot) → Pairs Else (map entryOf ss) → Pairs Other (map (λ (s : Spot). s .block) ss)
-distinct-of [] h = single
-distinct-of (s ∷ ss) (after a h) = after (other-of s ss a) (distinct-of ss h)
+distinct-of ss h = pairs-mapped (λ (s : Spot). s .block) Other ss (pairs-unmapped entryOf Else ss h)
 
 pub distinct-tags : (step : ℕ) (zs : List Zone) → Pairs Else (map entryOf (spots step 0 zs)) → Pairs Other (blocks zs)
 distinct-tags step zs h = subst (Pairs Other) (spots-blocks step 0 zs) (distinct-of (spots step 0 zs) h)

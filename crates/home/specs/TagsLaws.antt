@@ -6,7 +6,7 @@ use mathlib.Core.List.{List, [], _∷_, map}
 use Prim.Native.Nat.{ℕ, _*_, _≤_, _<_}
 use native.Mathlib.Omega.{arith}
 use lib.ListN.{length, length-map}
-use Rattle.wire.specs.All.{All, none, more, all-map}
+use Rattle.wire.specs.All.{All, all-map}
 use Rattle.wire.specs.Bytes.{get16}
 use Rattle.wire.specs.Cases.{by-test, by-eq, never}
 use Rattle.records.specs.declared.Record.{Record}
@@ -14,7 +14,7 @@ use Rattle.layout.specs.Capacities.{cells, classOf}
 use Rattle.layout.specs.CapacitiesLaws.{rising as rises}
 use Rattle.layout.specs.Zones.{Block, blocks, tags, hasTag}
 use Rattle.layout.specs.Perm.{Perm, In, Pairs, single, after}
-use Rattle.layout.specs.PermLaws.{pmap, pin, psym, plength, all-in, in-all, pmembers}
+use Rattle.layout.specs.PermLaws.{pmap, pin, psym, plength, all-in, in-all, pmembers, all-mapped, pairs-mapped}
 use Rattle.layout.specs.BuildingsLaws.{Tags}
 use Rattle.layout.specs.FindLaws.{by-tag, has-here, has-skip, find-none, lacks-has}
 use Rattle.layout.specs.EditsLaws.{empty-unknown}
@@ -23,7 +23,7 @@ use Rattle.home.specs.Sound.{sound, pagesOf, listOf}
 use Rattle.home.specs.SoundLaws.{sound-small, sound-valid, sound-loose, sound-words}
 use Rattle.home.specs.EntriesLaws.{Small, dictionary-small}
 use Rattle.home.specs.LookupLaws.{entry-in}
-use Rattle.home.specs.DictionaryLaws.{Below, spots-blocks, dictionary-rising, dictionary-perm}
+use Rattle.home.specs.DictionaryLaws.{spots-blocks, dictionary-rising, dictionary-perm}
 
 -- ---- tags of blocks, of entries and of spots
 
@@ -31,21 +31,9 @@ spots-tags : (ss : List Spot) → map (λ (d : Entry). d .tag) (map entryOf ss) 
 spots-tags [] = refl
 spots-tags (s ∷ ss) = ap (λ (l : List ℕ). s .block .tag ∷ l) (spots-tags ss)
 
-rising-head : (d : Entry) (ds : List Entry) → All (Below d) ds → All (λ (u : ℕ). d .tag < u) (map (λ (x : Entry). x .tag) ds)
-rising-head d [] h = none
-rising-head d (x ∷ ds) (more a h) = more a (rising-head d ds h)
-
-rising-tags : (ds : List Entry) → Pairs Below ds → Pairs _<_ (map (λ (d : Entry). d .tag) ds)
-rising-tags [] h = single
-rising-tags (d ∷ ds) (after a h) = after (rising-head d ds a) (rising-tags ds h)
-
-pub rising-distinct : (ts : List ℕ) → Pairs _<_ ts → Pairs _≢_ ts
+rising-distinct : (ts : List ℕ) → Pairs _<_ ts → Pairs _≢_ ts
 rising-distinct [] h = single
 rising-distinct (t ∷ ts) (after a h) = after (all-map {P = λ (u : ℕ). t < u} {Q = λ (u : ℕ). t ≢ u} (λ u b e. omega arith) a) (rising-distinct ts h)
-
-small-tags : (ds : List Entry) → All Small ds → Tags (map (λ (d : Entry). d .tag) ds)
-small-tags [] h = none
-small-tags (d ∷ ds) (more a h) = more (a .tag) (small-tags ds h)
 
 has-in : (t : ℕ) (bs : List Block) → hasTag t bs ≡ true → In t (tags bs)
 unfolding hasTag
@@ -69,13 +57,13 @@ module _ (h : List ℕ) (s : sound h ≡ true) where
       (pmap tag (dictionary-perm step (decode h))))
 
   pub tags-rise : Pairs _<_ (tagsOf h)
-  tags-rise = subst (λ (ds : List Entry). Pairs _<_ (map (λ (d : Entry). d .tag) ds)) (sym (sound-words h s)) (rising-tags (dictionary (stepOf h) (decode h)) (dictionary-rising (stepOf h) (decode h) (sound-valid h s .distinct)))
+  tags-rise = subst (λ (ds : List Entry). Pairs _<_ (map (λ (d : Entry). d .tag) ds)) (sym (sound-words h s)) (pairs-mapped (λ (d : Entry). d .tag) _<_ (dictionary (stepOf h) (decode h)) (dictionary-rising (stepOf h) (decode h) (sound-valid h s .distinct)))
 
   entries-small : All Small (entriesAt h 0 (get16 h 0))
   entries-small = subst (All Small) (sym (sound-words h s)) (dictionary-small (stepOf h) (pagesOf h) (decode h) (sound-small h s) (sound-loose h s .fit))
 
   pub tags-small : Tags (tagsOf h)
-  tags-small = small-tags (entriesAt h 0 (get16 h 0)) entries-small
+  tags-small = all-mapped (λ (d : Entry). d .tag) (λ (t : ℕ). t < 4294967296) (entriesAt h 0 (get16 h 0)) (all-map {P = Small} {Q = λ (d : Entry). d .tag < 4294967296} (λ d a. a .tag) entries-small)
 
   pub tag-small : (i : ℕ) → i < get16 h 0 → tagAt h i < 4294967296
   tag-small i g = all-in Small (record { tag = tagAt h i; cell = entryCell h i }) (entriesAt h 0 (get16 h 0)) entries-small (entry-in h 0 (get16 h 0) i (omega arith) (omega arith)) .tag

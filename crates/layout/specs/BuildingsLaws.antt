@@ -57,16 +57,16 @@ module _ (t : ℕ) (ts : List ℕ) where
   unfolding owned sum
   owned-more b = refl
 
-  pub owned-own : owned (building t) (t ∷ ts) ≡ suc (owned (building t) ts)
+  owned-own : owned (building t) (t ∷ ts) ≡ suc (owned (building t) ts)
   unfolding tally
   owned-own = omega (arith, owned-more (building t), ap tally (eq-eqb (building t) (building t) refl))
 
-  pub owned-other : (b : ℕ) → b ≢ building t → owned b (t ∷ ts) ≡ owned b ts
+  owned-other : (b : ℕ) → b ≢ building t → owned b (t ∷ ts) ≡ owned b ts
   unfolding tally
   owned-other b d = omega (arith, owned-more b, ap tally (ne-eqb (building t) b (λ e. d (sym e))))
 
   -- a sum over the buildings, of any number that goes by how many tags each has
-  pub sum-more : (m : ℕ → ℕ) → t < 4294967296
+  sum-more : (m : ℕ → ℕ) → t < 4294967296
       → sum (λ (b : ℕ). m (owned b (t ∷ ts))) (upTo 16) + m (owned (building t) ts) ≡ sum (λ (b : ℕ). m (owned b ts)) (upTo 16) + m (suc (owned (building t) ts))
   sum-more m g =
       sum-past (λ (b : ℕ). m (owned b (t ∷ ts))) (λ (b : ℕ). m (owned b ts)) (building t) (λ b d. ap m (owned-other b d)) 16 (small-building t g)
@@ -122,7 +122,7 @@ eights : sum (λ (b : ℕ). 8) (upTo 16) ≡ 128
 unfolding sum upTo
 eights = refl
 
-pub beyond-reserve : (ts : List ℕ) → reserve ts ≡ 128 + beyond ts
+beyond-reserve : (ts : List ℕ) → reserve ts ≡ 128 + beyond ts
 unfolding reserve beyond
 beyond-reserve ts =
     sum-as (λ (b : ℕ). max 8 (owned b ts)) (λ (b : ℕ). 8 + (owned b ts - 8)) (λ b. omega arith) (upTo 16)

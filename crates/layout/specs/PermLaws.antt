@@ -6,7 +6,7 @@ use Prim.Native.Nat.{ℕ, suc, _+_}
 use native.Mathlib.Omega.{arith}
 use lib.ListN.{length}
 use Rattle.wire.specs.All.{All, none, more, all-append, all-head, all-tail}
-use Rattle.layout.specs.Perm.{Perm, pnil, pskip, pswap, ptrans, In, sum, Pairs, after}
+use Rattle.layout.specs.Perm.{Perm, pnil, pskip, pswap, ptrans, In, sum, Pairs, single, after}
 
 module _ {A : Type 0} where
   pub prefl : (xs : List A) → Perm xs xs
@@ -135,6 +135,24 @@ module _ {A B : Type 0} (f : A → B) where
   map-in x [] i = absurd i
   map-in x (y ∷ xs) (inl e) = inl (ap f e)
   map-in x (y ∷ xs) (inr i) = inr (map-in x xs i)
+
+-- what holds of all elements' images, or of each two, holds of the mapped list, and back
+module _ {A B : Type 0} (f : A → B) where
+  pub all-mapped : (P : B → Type 0) (xs : List A) → All (λ (x : A). P (f x)) xs → All P (map f xs)
+  all-mapped P [] h = none
+  all-mapped P (x ∷ xs) (more a h) = more a (all-mapped P xs h)
+
+  all-unmapped : (P : B → Type 0) (xs : List A) → All P (map f xs) → All (λ (x : A). P (f x)) xs
+  all-unmapped P [] h = none
+  all-unmapped P (x ∷ xs) (more a h) = more a (all-unmapped P xs h)
+
+  pub pairs-mapped : (R : B → B → Type 0) (xs : List A) → Pairs (λ (x y : A). R (f x) (f y)) xs → Pairs R (map f xs)
+  pairs-mapped R [] h = single
+  pairs-mapped R (x ∷ xs) (after a h) = after (all-mapped (R (f x)) xs a) (pairs-mapped R xs h)
+
+  pub pairs-unmapped : (R : B → B → Type 0) (xs : List A) → Pairs R (map f xs) → Pairs (λ (x y : A). R (f x) (f y)) xs
+  pairs-unmapped R [] h = single
+  pairs-unmapped R (x ∷ xs) (after a h) = after (all-unmapped (R (f x)) xs a) (pairs-unmapped R xs h)
 
 -- ---- sums
 
