@@ -12,3 +12,5 @@ pub mod Puts
 pub mod Pit
 pub mod PitExamples
 pub mod Buildings
+pub mod Controllers
+pub mod ControllersExamples

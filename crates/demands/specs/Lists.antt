@@ -1,19 +1,21 @@
 -- Demand 2 for lists and reads: each list is sorted, a read gives exactly that list, and what was committed or formatted is what is read.
-use mathlib.Core.Path.{_≡_, refl, sym, ap, _∙_, subst}
+use mathlib.Core.Path.{_≡_, refl, sym, ap, ap₂, _∙_, subst}
 use mathlib.Core.Bool.{true}
 use Prim.Native.Nat.{ℕ, zero, suc, _+_, _≤_, _<_}
 use native.Mathlib.Omega.{arith}
-use mathlib.Core.List.{List, [], _∷_}
+use mathlib.Core.List.{List, [], _∷_, _++_}
 use mathlib.Core.Option.{none}
 use lib.ListN.{length, getD}
 use borrow.Author.Tests.{lt-ltb, eq-eqb}
 use Rattle.wire.specs.All.{All, more}
 use Rattle.wire.specs.Cases.{by-test, never}
-use Rattle.wire.specs.Rules.{first, refusal, left}
-use Rattle.wire.specs.RulesLaws.{by-refusal, first-passed, passes-both}
+use Rattle.wire.specs.Rules.{Rule, first, refusal, answered, left}
+use Rattle.wire.specs.RulesLaws.{by-refusal, first-behind, first-passed, passes-both}
 use Rattle.records.specs.declared.Record.{Record}
 use Rattle.records.specs.Records.{Fits, key, before, below, risingFrom, rising, encode as recordBytes}
 use Rattle.records.specs.Order.{before-key, rising-parts, rising-at}
+use Rattle.merges.specs.declared.Merge.{Merge}
+use Rattle.merges.specs.Merging.{merge}
 use Rattle.redo.specs.Image.{mark, home, headOk, inRange, imageLength, emptyImage}
 use Rattle.redo.specs.ImageLaws.{in-range, head-same}
 use Rattle.log.specs.declared.Outcome.the-variants.{Done as Committed}
@@ -34,6 +36,7 @@ use Rattle.gates.specs.declared.Of.the-variants.{Image, Space}
 use Rattle.gates.specs.Gates.{gateRules, homeIn}
 use Rattle.gates.specs.GatesLaws.{image-open}
 use Rattle.reads.specs.Reads.{listIn, countIn, rankIn, showIn}
+use Rattle.reads.specs.Merges.{written, mergeIn}
 use Rattle.reads.specs.ReadsLaws.{sound-listed, count-open, show-open}
 use Rattle.index.specs.Calls.{beginCall, formatPlan}
 use Rattle.index.specs.FormatLaws.{format-coded}
@@ -77,28 +80,41 @@ pub image-opens : (l : List ℕ) → headOk l ≡ true → mark l ≡ 0 → soun
 unfolding gateRules first
 image-opens l ok m s = rw (ok, eq-eqb (mark l) 0 m, s)
 
--- ---- an image and a workspace
+-- ---- two images, two workspaces, or one of each
 
--- an image reads as a workspace
-pub record ReadsAs (l w : List ℕ) : Type 0 where
-  pub count : (t : ℕ) → countIn Image l t ≡ countIn Space w t
-  pub rank : (t k : ℕ) → rankIn Image l t k ≡ rankIn Space w t k
-  pub show : (t : ℕ) → showIn Image l t ≡ showIn Space w t
+-- every read of one answers and writes as the same read of the other
+pub record ReadsAs (of : Of) (a : List ℕ) (of' : Of) (b : List ℕ) : Type 0 where
+  pub count : (t : ℕ) → countIn of a t ≡ countIn of' b t
+  pub rank : (t k : ℕ) → rankIn of a t k ≡ rankIn of' b t k
+  pub show : (t : ℕ) → showIn of a t ≡ showIn of' b t
+  pub merge : (m : Merge) (t u : ℕ) (out : List ℕ) → (answered Refused (mergeIn m of a t u out) ≡ answered Refused (mergeIn m of' b t u out)) × (left (mergeIn m of a t u out) out ≡ left (mergeIn m of' b t u out) out)
 
--- what is read by home alone
-same-read : {A : Type 0} (f : ℕ → A) (g : List ℕ → A) (l w : List ℕ) → refusal (gateRules Image l) ≡ none → home l ≡ w → first f (gateRules Image l) (g (home l)) ≡ first f (gateRules Space w) (g w)
-same-read f g l w p e = first-passed f (gateRules Image l) (g (home l)) p ∙ ap g e ∙ sym (first-passed f (gateRules Space w) (g w) (space-opens w (ap sound (sym e) ∙ image-open l p .fine)))
+-- where neither is refused, if they have the same lists
+module _ (of : Of) (a : List ℕ) (of' : Of) (b : List ℕ) (p : refusal (gateRules of a) ≡ none) (q : refusal (gateRules of' b) ≡ none) where
+  both-open : {A : Type 0} (f : ℕ → A) (x y : A) → x ≡ y → first f (gateRules of a) x ≡ first f (gateRules of' b) y
+  both-open f x y e = first-passed f (gateRules of a) x p ∙ e ∙ sym (first-passed f (gateRules of' b) y q)
 
-pub home-reads : (l w : List ℕ) → refusal (gateRules Image l) ≡ none → home l ≡ w → ReadsAs l w
-unfolding countIn rankIn showIn homeIn
-home-reads l w p e = record {
-  count = λ t. same-read Refused (λ h. Count (length (listOf h t))) l w p e;
-  rank = λ t k. same-read Refused (λ h. Count (below k (listOf h t))) l w p e;
-  show = λ t. same-read (λ n. []) (λ h. recordBytes (listOf h t)) l w p e;
-}
+  both-behind : {A : Type 0} (f : ℕ → A) (rs ss : List Rule) (x y : A) → first f rs x ≡ first f ss y → first f (gateRules of a ++ rs) x ≡ first f (gateRules of' b ++ ss) y
+  both-behind f rs ss x y e = first-behind f (gateRules of a) rs x ∙ both-open f (first f rs x) (first f ss y) e ∙ sym (first-behind f (gateRules of' b) ss y)
+
+  pub lists-read : ((t : ℕ) → listIn of a t ≡ listIn of' b t) → ReadsAs of a of' b
+  unfolding countIn rankIn showIn mergeIn
+  lists-read e = record {
+    count = λ t. both-open Refused _ _ (ap (λ (rs : List Record). Count (length rs)) (e t));
+    rank = λ t k. both-open Refused _ _ (ap (λ (rs : List Record). Count (below k rs)) (e t));
+    show = λ t. both-open (λ n. []) _ _ (ap recordBytes (e t));
+    merge = λ m t u out.
+        let c : merge m (listIn of a t) (listIn of a u) ≡ merge m (listIn of' b t) (listIn of' b u) = ap₂ (merge m) (e t) (e u) in
+        (both-behind Refused _ _ _ _ (ap (λ (rs : List Record). answered Refused (written rs out)) c), both-behind (λ n. out) _ _ _ _ (ap (λ (rs : List Record). left (written rs out) out) c));
+  }
+
+-- an image and a workspace that is its home
+pub home-reads : (l w : List ℕ) → refusal (gateRules Image l) ≡ none → home l ≡ w → ReadsAs Image l Space w
+unfolding homeIn
+home-reads l w p e = lists-read Image l Space w p (space-opens w (ap sound (sym e) ∙ image-open l p .fine)) (λ t. ap (λ (h : List ℕ). listOf h t) e)
 
 -- "copies home to a workspace": a workspace that was begun
-pub begun-reads : (l w : List ℕ) → refusal (beginCall l w .rules) ≡ none → ReadsAs l (left (beginCall l w) w)
+pub begun-reads : (l w : List ℕ) → refusal (beginCall l w .rules) ≡ none → ReadsAs Image l Space (left (beginCall l w) w)
 unfolding beginCall
 begun-reads l w e = home-reads l (left (beginCall l w) w) (passes-both (gateRules Image l) _ e .0) (sym (first-passed (λ n. w) (beginCall l w .rules) (home l) e))
 
@@ -123,7 +139,7 @@ module _ (l w : List ℕ) (n m : ℕ) (done : answer (commitPlan sound l w) n �
       let fine : sound w ≡ true = subst (λ (x : List ℕ). sound x ≡ true) (k .0) (t .fits .fine) in
       record { gate = image-opens l' (head-same (t .head) ∙ o .head) (k .1) (ap sound (k .2) ∙ fine); bytes = k .2 })
 
-  pub committed-reads : ReadsAs l' w
+  pub committed-reads : ReadsAs Image l' Space w
   committed-reads = home-reads l' w (committed .gate) (committed .bytes)
 
   -- the step code is the workspace's then, also where the image had the other one

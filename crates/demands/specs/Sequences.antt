@@ -1,12 +1,18 @@
 -- Edits one after another in a workspace, and turns of begin, edits and commit at an image.
-use Prim.Native.Nat.{ℕ, _<_}
+use mathlib.Core.Path.{_≡_}
+use mathlib.Core.Option.{none}
 use mathlib.Core.List.{List, [], _∷_, _++_}
-use Rattle.wire.specs.Rules.{first, Ruled, answered, left}
+use Prim.Native.Nat.{ℕ, _<_}
+use Rattle.wire.specs.All.{All}
+use Rattle.wire.specs.Rules.{first, refusal, Ruled, answered, left}
 use Rattle.records.specs.declared.Record.{Record}
 use Rattle.records.specs.Records.{Fits, insert, remove, amend}
+use Rattle.redo.specs.Image.{home}
+use Rattle.log.specs.declared.Outcome.the-variants.{Done as Committed}
+use Rattle.log.specs.Calls.{answer, commitPlan}
 use Rattle.log.specs.Book.{Call, commit, recover, final}
 use Rattle.home.specs.declared.Answer.{Answer}
-use Rattle.home.specs.declared.Answer.the-variants.{Refused}
+use Rattle.home.specs.declared.Answer.the-variants.{Count, Refused}
 use Rattle.home.specs.Sound.{sound}
 use Rattle.edits.specs.declared.Terminal.{Terminal}
 use Rattle.index.specs.Calls.{beginCall, putCall, deleteCall, setCall, dropCall}
@@ -64,6 +70,10 @@ pub record Event : Type 0 where
 abbrev pub RangedIn : Event → Type 0
 RangedIn v = Ranged (v .edit)
 
+-- it is not refused
+abbrev pub Accepted : Event → Type 0
+Accepted v = (n : ℕ) × (answerOf (v .edit) (v .space) ≡ Count n)
+
 unfoldable pub events : List Edit → List ℕ → List Event
 events [] w = []
 events (e ∷ es) w = record { edit = e; space = w } ∷ events es (made e w)
@@ -101,3 +111,21 @@ afterTurns (u ∷ us) l = afterTurns us (turned u l)
 unfoldable pub allEvents : List Turn → List ℕ → List Event
 allEvents [] l = []
 allEvents (u ∷ us) l = eventsAt u l ++ allEvents us (turned u l)
+
+-- the edits of a turn, and of one turn after another
+unfoldable pub editsIn : Turn → List Edit
+editsIn (turn w es n v) = es
+editsIn (recovery n v) = []
+
+unfoldable pub editsOf : List Turn → List Edit
+editsOf [] = []
+editsOf (u ∷ us) = editsIn u ++ editsOf us
+
+-- a turn's begin and edits are not refused, and its commit is done; a recovery may stand anywhere
+abbrev pub Finished : Turn → List ℕ → Type 0
+Finished (turn w es n v) l = (refusal (beginCall l w .rules) ≡ none) × All Accepted (events es (home l)) × ((m : ℕ) × (answer (commitPlan sound l (through es (home l))) n ≡ Committed m))
+Finished (recovery n v) l = Unit {0}
+
+abbrev pub AllFinished : List Turn → List ℕ → Type 0
+AllFinished [] l = Unit {0}
+AllFinished (u ∷ us) l = Finished u l × AllFinished us (turned u l)

@@ -2,18 +2,20 @@
 use mathlib.Core.Path.{_≡_, refl, sym, ap, _∙_, subst}
 use mathlib.Core.Bool.{true}
 use mathlib.Core.Option.{none, some}
-use mathlib.Core.List.{List, [], _∷_}
-use Prim.Native.Nat.{ℕ}
+use mathlib.Core.List.{List, [], _∷_, _++_}
+use Prim.Native.Nat.{ℕ, zero, suc}
 use native.Mathlib.Omega.{arith}
+use borrow.Author.Tests.{eq-eqb, ne-eqb}
 use Rattle.wire.specs.Cases.{by-eq}
 use Rattle.wire.specs.All.{All, none as nothing, more, all-append}
-use Rattle.wire.specs.Rules.{refusal, left}
+use Rattle.wire.specs.Rules.{first, refusal, left}
 use Rattle.wire.specs.RulesLaws.{by-refusal, first-refused, first-passed, passes-both}
 use Rattle.records.specs.declared.Record.{Record}
+use Rattle.redo.specs.Store.{halfway, apply}
 use Rattle.redo.specs.Image.{capacity, mark, home, headOk}
 use Rattle.log.specs.declared.Outcome.the-variants.{Done as Committed}
-use Rattle.log.specs.Calls.{answer, commitPlan}
-use Rattle.log.specs.Book.{Call, commit, recover, allowance, value, planOf, Book, start, seen, final, next}
+use Rattle.log.specs.Calls.{store, answer, after, recoverRules, recoverPlan, commitPlan}
+use Rattle.log.specs.Book.{Call, commit, recover, allowance, value, planOf, rest, caught, Book, start, seen, final, next}
 use Rattle.log.specs.BookLaws.{Both, recover-both, commit-both}
 use Rattle.log.specs.Holds.{Holds}
 use Rattle.log.specs.Steps.{step}
@@ -22,13 +24,13 @@ use Rattle.layout.specs.PermLaws.{all-left, all-right}
 use Rattle.home.specs.declared.Answer.{Answer}
 use Rattle.home.specs.declared.Answer.the-variants.{Count, Refused}
 use Rattle.home.specs.Sound.{sound, listOf}
-use Rattle.gates.specs.declared.Of.the-variants.{Image}
+use Rattle.gates.specs.declared.Of.the-variants.{Image, Space}
 use Rattle.gates.specs.Gates.{gateRules}
 use Rattle.gates.specs.GatesLaws.{image-open}
 use Rattle.index.specs.Calls.{beginCall}
 use Rattle.demands.specs.Effects.{Effect, edit-effect}
-use Rattle.demands.specs.Lists.{ReadsAs, committed-reads}
-use Rattle.demands.specs.Sequences.{Edit, answerOf, made, tagOf, listBy, Ranged, Event, events, through, Turn, turn, recovery, eventsAt, callsAt, turned, afterTurns, allEvents}
+use Rattle.demands.specs.Lists.{ReadsAs, home-reads, committed}
+use Rattle.demands.specs.Sequences.{Edit, answerOf, made, tagOf, listBy, Ranged, Event, events, Accepted, through, Turn, turn, recovery, eventsAt, callsAt, turned, afterTurns, allEvents, editsIn, editsOf, Finished, AllFinished}
 
 -- ---- an edit
 
@@ -40,6 +42,11 @@ effect-sound w w' t rs (Refused n) d s = ap sound d ∙ s
 pub edit-sound : (e : Edit) → Ranged e → (w : List ℕ) → sound w ≡ true → sound (made e w) ≡ true
 edit-sound e g w = effect-sound w (made e w) (tagOf e) (listBy e (listOf w (tagOf e))) (answerOf e w) (edit-effect e g w)
 
+pub through-sound : (es : List Edit) → All Ranged es → (w : List ℕ) → sound w ≡ true → sound (through es w) ≡ true
+unfolding through
+through-sound [] g w s = s
+through-sound (e ∷ es) (more a g) w s = through-sound es g (made e w) (edit-sound e a w s)
+
 -- a tag's list is as before, or the edit is one of this tag, is done, and has made it
 pub by-list : (G : List Record → Type 0) (e : Edit) → Ranged e → (w : List ℕ) (t : ℕ) → G (listOf w t) → ((n : ℕ) → tagOf e ≡ t → answerOf e w ≡ Count n → G (listBy e (listOf w t))) → G (listOf (made e w) t)
 by-list G e g w t same done = go (answerOf e w) refl (edit-effect e g w)
@@ -49,6 +56,17 @@ by-list G e g w t same done = go (answerOf e w) refl (edit-effect e g w)
     go (Count n) q d = by-eq (tagOf e) t
         (λ i. subst G (sym (ap (listOf (made e w)) (sym i) ∙ d .list ∙ ap (λ (u : ℕ). listBy e (listOf w u)) i)) (done n i q))
         (λ i. subst G (sym (d .others t (λ z. i (sym z)))) same)
+
+-- one sequence and then another
+pub through-both : (es fs : List Edit) (w : List ℕ) → through (es ++ fs) w ≡ through fs (through es w)
+unfolding through
+through-both [] fs w = refl
+through-both (e ∷ es) fs w = through-both es fs (made e w)
+
+pub events-both : (es fs : List Edit) (w : List ℕ) → events (es ++ fs) w ≡ events es w ++ events fs (through es w)
+unfolding events through
+events-both [] fs w = refl
+events-both (e ∷ es) fs w = ap (_∷_ (record { edit = e; space = w })) (events-both es fs (made e w))
 
 -- ---- a turn
 
@@ -71,11 +89,52 @@ module _ (l w : List ℕ) (es : List Edit) (n v : ℕ) where
             ∙ ap (λ (x : List ℕ). seen sound (commit (through es x) n v) l .image) begun,
       )
 
-  -- and where the commit is done, the image reads as that
-  pub turn-done : refusal (beginCall l w .rules) ≡ none → (m : ℕ) → answer (commitPlan sound l (through es (home l))) n ≡ Committed m → ReadsAs (turned (turn w es n v) l) (through es (home l))
-  unfolding seen planOf allowance value
-  turn-done q m d =
-      subst (λ (x : List ℕ). ReadsAs x (through es (home l))) (sym (turn-begun q .1 ∙ done-uncaught (commitPlan sound l (through es (home l))) n m v l d)) (committed-reads l (through es (home l)) n m d)
+  -- and where the commit is done, that is home, and the image reads as it
+  module _ (q : refusal (beginCall l w .rules) ≡ none) (m : ℕ) (d : answer (commitPlan sound l (through es (home l))) n ≡ Committed m) where
+    turn-committed : turned (turn w es n v) l ≡ after (commitPlan sound l (through es (home l))) n l
+    unfolding seen planOf allowance value
+    turn-committed = turn-begun q .1 ∙ done-uncaught (commitPlan sound l (through es (home l))) n m v l d
+
+    pub turn-home : (refusal (gateRules Image (turned (turn w es n v) l)) ≡ none) × (home (turned (turn w es n v) l) ≡ through es (home l))
+    turn-home = let c = committed l (through es (home l)) n m d in (ap (λ (x : List ℕ). refusal (gateRules Image x)) turn-committed ∙ c .gate, ap home turn-committed ∙ c .bytes)
+
+    pub turn-done : ReadsAs Image (turned (turn w es n v) l) Space (through es (home l))
+    turn-done = home-reads (turned (turn w es n v) l) (through es (home l)) (turn-home .0) (turn-home .1)
+
+-- ---- turns that are all finished
+
+-- an image whose home is what edits that were accepted made of h
+pub record Reached (es : List Edit) (h : List ℕ) (l : List ℕ) : Type 0 where
+  pub gate : refusal (gateRules Image l) ≡ none
+  pub bytes : home l ≡ through es h
+  pub accepted : All Accepted (events es h)
+
+no-stores : (n v : ℕ) (l : List ℕ) → caught (store []) n v l ≡ l
+unfolding caught rest after halfway apply
+no-stores zero v l = refl
+no-stores (suc n) v l = refl
+
+-- with mark 0 a recovery has nothing to do
+idle : (n v : ℕ) (l : List ℕ) → refusal (gateRules Image l) ≡ none → turned (recovery n v) l ≡ l
+unfolding callsAt final seen planOf allowance value recoverPlan recoverRules first
+idle n v l p = let o = image-open l p in rw (o .head, eq-eqb (mark l) 0 (o .clear), ne-eqb (mark l) 165 (λ z. omega (arith, o .clear))) (no-stores n v l)
+
+finished-one : (u : Turn) (l : List ℕ) → refusal (gateRules Image l) ≡ none → Finished u l → Reached (editsIn u) (home l) (turned u l)
+unfolding editsIn events through
+finished-one (turn w es n v) l p (q, a, d) = let h = turn-home l w es n v q (d .0) (d .1) in record { gate = h .0; bytes = h .1; accepted = a }
+finished-one (recovery n v) l p f = let i = idle n v l p in record { gate = ap (λ (x : List ℕ). refusal (gateRules Image x)) i ∙ p; bytes = ap home i; accepted = nothing }
+
+pub finished : (us : List Turn) (l : List ℕ) → refusal (gateRules Image l) ≡ none → AllFinished us l → Reached (editsOf us) (home l) (afterTurns us l)
+unfolding afterTurns editsOf events through
+finished [] l p f = record { gate = p; bytes = refl; accepted = nothing }
+finished (u ∷ us) l p (f, g) =
+    let h : Reached (editsIn u) (home l) (turned u l) = finished-one u l p f in
+    let r : Reached (editsOf us) (home (turned u l)) (afterTurns us (turned u l)) = finished us (turned u l) (h .gate) g in
+    record {
+      gate = r .gate;
+      bytes = r .bytes ∙ ap (through (editsOf us)) (h .bytes) ∙ sym (through-both (editsIn u) (editsOf us) (home l));
+      accepted = subst (All Accepted) (sym (events-both (editsIn u) (editsOf us) (home l))) (all-append (h .accepted) (subst (λ (x : List ℕ). All Accepted (events (editsOf us) x)) (h .bytes) (r .accepted)));
+    }
 
 -- ---- what edits keep, under a condition on each of them
 

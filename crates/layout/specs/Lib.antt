@@ -11,6 +11,7 @@ pub mod Rising
 pub mod ClassesLaws
 pub mod CapacitiesLaws
 pub mod PermLaws
+pub mod MembersLaws
 pub mod BuildingsLaws
 pub mod FindLaws
 pub mod PlaceLaws
