@@ -215,7 +215,7 @@ fn coarse_too_many(tally: &mut Tally) {
 // ---- random edits of small areas that are nearly full
 
 /// The cells of all blocks, known from the lengths of their lists alone.
-fn needed(step: u32, lengths: &BTreeMap<u32, usize>) -> usize {
+pub fn needed(step: u32, lengths: &BTreeMap<u32, usize>) -> usize {
     let size = |n: &usize| 1 + CAPACITIES[step as usize].iter().find(|c| *c >= n).unwrap();
     lengths.values().filter(|&&n| n > 0).map(size).sum()
 }

@@ -6,6 +6,7 @@ mod book;
 mod buildings;
 mod calls;
 mod caught;
+mod controllers;
 mod input;
 mod lines;
 mod model;
@@ -56,6 +57,9 @@ fn main() {
     afresh::cases(&mut tally);
     let laid = afresh::nearly_full(calls / 10, &mut rng, &mut tally);
     println!("nearly full areas: {laid} puts laid all zones out afresh, 12 only where they do not fit");
+    controllers::outside(&mut tally);
+    let (clean, refused) = controllers::sequences(calls / 500, &mut rng, &mut tally);
+    println!("two controllers, two sequences: {clean} collections end with the same lists, {refused} meet a refusal");
     if calls >= 100_000 {
         let found = caught::every_cut(&mut tally);
         println!("every cut: {} times the old index is found, {} times the new one", found.old, found.new);

@@ -5,8 +5,13 @@
 /// phone.
 pub type Rec = [u8; 8];
 
-fn primary(r: &Rec) -> &[u8] {
+pub fn primary(r: &Rec) -> &[u8] {
     &r[..7]
+}
+
+/// The records in bytes.
+pub fn records(b: &[u8]) -> Vec<Rec> {
+    b.chunks(8).map(|r| r.try_into().unwrap()).collect()
 }
 
 /// The classes that a home's zone table has entries for.
@@ -141,8 +146,7 @@ impl Home {
                 if n == 0 || home.class_of(n) != Some(c) || !zero(&block[6..8]) || !zero(&block[8 + 8 * n..]) {
                     return None;
                 }
-                let list: Vec<Rec> =
-                    block[8..8 + 8 * n].chunks(8).map(|r| r.try_into().unwrap()).collect();
+                let list = records(&block[8..8 + 8 * n]);
                 if list.windows(2).any(|w| primary(&w[0]) >= primary(&w[1])) {
                     return None;
                 }

@@ -178,8 +178,8 @@ impl Pair {
         self.space.fill(0);
         self.space[STEP] = old[STEP] ^ 1;
         for (tag, _) in dictionary(&old) {
-            for r in cix::show_space(&old, tag).chunks(8) {
-                self.put(tag, r.try_into().unwrap(), tally);
+            for r in model::records(cix::show_space(&old, tag)) {
+                self.put(tag, r, tally);
             }
         }
     }

@@ -24,6 +24,12 @@ impl Random {
         self.below(n) == 0
     }
 
+    pub fn shuffle<T>(&mut self, items: &mut [T]) {
+        for i in (1..items.len()).rev() {
+            items.swap(i, self.below(i as u32 + 1) as usize);
+        }
+    }
+
     /// One of so many tags, up to 1,600; 0 and the highest are among them. Each hundred is of another building.
     pub fn tag(&mut self, tags: u32) -> u32 {
         match self.below(tags) {

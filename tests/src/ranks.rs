@@ -2,7 +2,7 @@
 //! foretold, in a workspace and through a commit.
 use crate::book::changed;
 use crate::caught::Found;
-use crate::model::{Of, Rec, MARKED};
+use crate::model::{records, Of, Rec, MARKED};
 use crate::pair::{dictionary, Pair, Terminal, Told};
 use crate::random::Random;
 use crate::Tally;
@@ -45,7 +45,7 @@ pub fn bounds(tally: &mut Tally) {
 // ---- in a workspace
 
 fn list(space: &[u8], tag: u32) -> Vec<Rec> {
-    cix::show_space(space, tag).chunks(8).map(|r| r.try_into().unwrap()).collect()
+    records(cix::show_space(space, tag))
 }
 
 /// Puts to small and long lists: how many were done, and how many refused.
