@@ -252,7 +252,11 @@ fn agree(both: &[Pair; 2], of: Of, lists: &Lists, rng: &mut Random, tally: &mut 
     let (first, second) = (rng.tag(TAGS), rng.tag(TAGS));
     let [one, other] = both.each_ref().map(|p| {
         let mut out = vec![0; 2000];
-        (cix::merge_image(&p.image, merge, first, second, &mut out).unwrap(), out)
+        let count = match of {
+            Of::Image => cix::merge_image(&p.image, merge, first, second, &mut out),
+            Of::Space => cix::merge_space(&p.space, merge, first, second, &mut out),
+        };
+        (count.unwrap(), out)
     });
     assert_eq!(one, other, "{merge:?} of tags {first} and {second} on the two controllers");
 }
