@@ -28,8 +28,9 @@ use Rattle.reads.specs.ReadsLaws.{sound-listed}
 use Rattle.edits.specs.declared.Terminal.{Terminal}
 use Rattle.demands.specs.Effects.{Done, Effect, edit-effect}
 use Rattle.demands.specs.Lists.{list-sorted, space-opens, ReadsAs, lists-read}
-use Rattle.demands.specs.Sequences.{Edit, put, delete, setMinutes, dropTag, made, tagOf, listBy, Ranged, events, Accepted, through, Turn, afterTurns, editsOf, AllFinished}
-use Rattle.demands.specs.SequencesLaws.{through-sound, Reached, finished}
+use Rattle.demands.specs.Sequences.{Edit, put, delete, setMinutes, dropTag, made, tagOf, listBy, Ranged, events, Accepted, through, Turn, afterTurns}
+use Rattle.demands.specs.SequencesLaws.{through-sound}
+use Rattle.demands.specs.Reached.{Reached, editsOf, AllFinished, finished}
 
 -- ---- a collection of edits
 
@@ -199,14 +200,15 @@ module _ (es fs : List Edit) (same : Perm es fs) (c : Collection es) (w x : List
 
 -- ---- through commits
 
--- two images with equal lists, at which the edits are made in turns, however many in one, and all are finished
-module _ (us vs : List Turn) (same : Perm (editsOf us) (editsOf vs)) (c : Collection (editsOf us)) (l k : List ℕ) (p : refusal (gateRules Image l) ≡ none) (q : refusal (gateRules Image k) ≡ none) (lists : (t : ℕ) → listIn Image l t ≡ listIn Image k t) where
-  pub images-agree : AllFinished us l → AllFinished vs k → Agree Image (afterTurns us l) Image (afterTurns vs k)
+module _ (l k : List ℕ) (p : refusal (gateRules Image l) ≡ none) (q : refusal (gateRules Image k) ≡ none) (lists : (t : ℕ) → listIn Image l t ≡ listIn Image k t) where
+  -- two images with equal lists have come to hold the edits of a collection, each in its own sequence
+  pub images-agree : {es fs : List Edit} {x y : List ℕ} → Perm es fs → Collection es → Reached es (home l) x → Reached fs (home k) y → Agree Image x Image y
   unfolding homeIn
-  images-agree f g =
-      let a : Reached (editsOf us) (home l) (afterTurns us l) = finished us l p f in
-      let b : Reached (editsOf vs) (home k) (afterTurns vs k) = finished vs k q g in
-      agree Image (afterTurns us l) Image (afterTurns vs k) (a .gate) (b .gate) (λ t.
+  images-agree {es} {fs} {x} {y} same c a b = agree Image x Image y (a .gate) (b .gate) (λ t.
       ap (λ (h : List ℕ). listOf h t) (a .bytes)
-      ∙ two-sequences (editsOf us) (editsOf vs) same c (home l) (home k) (image-open l p .fine) (image-open k q .fine) lists (a .accepted) (b .accepted) t
+      ∙ two-sequences es fs same c (home l) (home k) (image-open l p .fine) (image-open k q .fine) lists (a .accepted) (b .accepted) t
       ∙ ap (λ (h : List ℕ). listOf h t) (sym (b .bytes)))
+
+  -- by turns, however many edits in one: each begun, made and committed, and all done
+  pub turns-agree : (us vs : List Turn) → Perm (editsOf us) (editsOf vs) → Collection (editsOf us) → AllFinished us l → AllFinished vs k → Agree Image (afterTurns us l) Image (afterTurns vs k)
+  turns-agree us vs same c f g = images-agree same c (finished us l p f) (finished vs k q g)

@@ -8,6 +8,7 @@ pub mod Claim
 pub mod Afresh
 pub mod Sequences
 pub mod SequencesLaws
+pub mod Reached
 pub mod Puts
 pub mod Pit
 pub mod PitExamples

@@ -1,15 +1,10 @@
 -- Edits one after another in a workspace, and turns of begin, edits and commit at an image.
 use mathlib.Core.Path.{_≡_}
-use mathlib.Core.Option.{none}
 use mathlib.Core.List.{List, [], _∷_, _++_}
 use Prim.Native.Nat.{ℕ, _<_}
-use Rattle.wire.specs.All.{All}
-use Rattle.wire.specs.Rules.{first, refusal, Ruled, answered, left}
+use Rattle.wire.specs.Rules.{first, Ruled, answered, left}
 use Rattle.records.specs.declared.Record.{Record}
 use Rattle.records.specs.Records.{Fits, insert, remove, amend}
-use Rattle.redo.specs.Image.{home}
-use Rattle.log.specs.declared.Outcome.the-variants.{Done as Committed}
-use Rattle.log.specs.Calls.{answer, commitPlan}
 use Rattle.log.specs.Book.{Call, commit, recover, final}
 use Rattle.home.specs.declared.Answer.{Answer}
 use Rattle.home.specs.declared.Answer.the-variants.{Count, Refused}
@@ -111,21 +106,3 @@ afterTurns (u ∷ us) l = afterTurns us (turned u l)
 unfoldable pub allEvents : List Turn → List ℕ → List Event
 allEvents [] l = []
 allEvents (u ∷ us) l = eventsAt u l ++ allEvents us (turned u l)
-
--- the edits of a turn, and of one turn after another
-unfoldable pub editsIn : Turn → List Edit
-editsIn (turn w es n v) = es
-editsIn (recovery n v) = []
-
-unfoldable pub editsOf : List Turn → List Edit
-editsOf [] = []
-editsOf (u ∷ us) = editsIn u ++ editsOf us
-
--- a turn's begin and edits are not refused, and its commit is done; a recovery may stand anywhere
-abbrev pub Finished : Turn → List ℕ → Type 0
-Finished (turn w es n v) l = (refusal (beginCall l w .rules) ≡ none) × All Accepted (events es (home l)) × ((m : ℕ) × (answer (commitPlan sound l (through es (home l))) n ≡ Committed m))
-Finished (recovery n v) l = Unit {0}
-
-abbrev pub AllFinished : List Turn → List ℕ → Type 0
-AllFinished [] l = Unit {0}
-AllFinished (u ∷ us) l = Finished u l × AllFinished us (turned u l)

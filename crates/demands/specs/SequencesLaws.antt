@@ -3,19 +3,17 @@ use mathlib.Core.Path.{_≡_, refl, sym, ap, _∙_, subst}
 use mathlib.Core.Bool.{true}
 use mathlib.Core.Option.{none, some}
 use mathlib.Core.List.{List, [], _∷_, _++_}
-use Prim.Native.Nat.{ℕ, zero, suc}
+use Prim.Native.Nat.{ℕ}
 use native.Mathlib.Omega.{arith}
-use borrow.Author.Tests.{eq-eqb, ne-eqb}
 use Rattle.wire.specs.Cases.{by-eq}
 use Rattle.wire.specs.All.{All, none as nothing, more, all-append}
-use Rattle.wire.specs.Rules.{first, refusal, left}
+use Rattle.wire.specs.Rules.{refusal, left}
 use Rattle.wire.specs.RulesLaws.{by-refusal, first-refused, first-passed, passes-both}
 use Rattle.records.specs.declared.Record.{Record}
-use Rattle.redo.specs.Store.{halfway, apply}
 use Rattle.redo.specs.Image.{capacity, mark, home, headOk}
 use Rattle.log.specs.declared.Outcome.the-variants.{Done as Committed}
-use Rattle.log.specs.Calls.{store, answer, after, recoverRules, recoverPlan, commitPlan}
-use Rattle.log.specs.Book.{Call, commit, recover, allowance, value, planOf, rest, caught, Book, start, seen, final, next}
+use Rattle.log.specs.Calls.{answer, after, commitPlan}
+use Rattle.log.specs.Book.{Call, commit, recover, allowance, value, planOf, Book, start, seen, final, next}
 use Rattle.log.specs.BookLaws.{Both, recover-both, commit-both}
 use Rattle.log.specs.Holds.{Holds}
 use Rattle.log.specs.Steps.{step}
@@ -30,7 +28,7 @@ use Rattle.gates.specs.GatesLaws.{image-open}
 use Rattle.index.specs.Calls.{beginCall}
 use Rattle.demands.specs.Effects.{Effect, edit-effect}
 use Rattle.demands.specs.Lists.{ReadsAs, home-reads, committed}
-use Rattle.demands.specs.Sequences.{Edit, answerOf, made, tagOf, listBy, Ranged, Event, events, Accepted, through, Turn, turn, recovery, eventsAt, callsAt, turned, afterTurns, allEvents, editsIn, editsOf, Finished, AllFinished}
+use Rattle.demands.specs.Sequences.{Edit, answerOf, made, tagOf, listBy, Ranged, Event, events, through, Turn, turn, recovery, eventsAt, callsAt, turned, afterTurns, allEvents}
 
 -- ---- an edit
 
@@ -100,41 +98,6 @@ module _ (l w : List ℕ) (es : List Edit) (n v : ℕ) where
 
     pub turn-done : ReadsAs Image (turned (turn w es n v) l) Space (through es (home l))
     turn-done = home-reads (turned (turn w es n v) l) (through es (home l)) (turn-home .0) (turn-home .1)
-
--- ---- turns that are all finished
-
--- an image whose home is what edits that were accepted made of h
-pub record Reached (es : List Edit) (h : List ℕ) (l : List ℕ) : Type 0 where
-  pub gate : refusal (gateRules Image l) ≡ none
-  pub bytes : home l ≡ through es h
-  pub accepted : All Accepted (events es h)
-
-no-stores : (n v : ℕ) (l : List ℕ) → caught (store []) n v l ≡ l
-unfolding caught rest after halfway apply
-no-stores zero v l = refl
-no-stores (suc n) v l = refl
-
--- with mark 0 a recovery has nothing to do
-idle : (n v : ℕ) (l : List ℕ) → refusal (gateRules Image l) ≡ none → turned (recovery n v) l ≡ l
-unfolding callsAt final seen planOf allowance value recoverPlan recoverRules first
-idle n v l p = let o = image-open l p in rw (o .head, eq-eqb (mark l) 0 (o .clear), ne-eqb (mark l) 165 (λ z. omega (arith, o .clear))) (no-stores n v l)
-
-finished-one : (u : Turn) (l : List ℕ) → refusal (gateRules Image l) ≡ none → Finished u l → Reached (editsIn u) (home l) (turned u l)
-unfolding editsIn events through
-finished-one (turn w es n v) l p (q, a, d) = let h = turn-home l w es n v q (d .0) (d .1) in record { gate = h .0; bytes = h .1; accepted = a }
-finished-one (recovery n v) l p f = let i = idle n v l p in record { gate = ap (λ (x : List ℕ). refusal (gateRules Image x)) i ∙ p; bytes = ap home i; accepted = nothing }
-
-pub finished : (us : List Turn) (l : List ℕ) → refusal (gateRules Image l) ≡ none → AllFinished us l → Reached (editsOf us) (home l) (afterTurns us l)
-unfolding afterTurns editsOf events through
-finished [] l p f = record { gate = p; bytes = refl; accepted = nothing }
-finished (u ∷ us) l p (f, g) =
-    let h : Reached (editsIn u) (home l) (turned u l) = finished-one u l p f in
-    let r : Reached (editsOf us) (home (turned u l)) (afterTurns us (turned u l)) = finished us (turned u l) (h .gate) g in
-    record {
-      gate = r .gate;
-      bytes = r .bytes ∙ ap (through (editsOf us)) (h .bytes) ∙ sym (through-both (editsIn u) (editsOf us) (home l));
-      accepted = subst (All Accepted) (sym (events-both (editsIn u) (editsOf us) (home l))) (all-append (h .accepted) (subst (λ (x : List ℕ). All Accepted (events (editsOf us) x)) (h .bytes) (r .accepted)));
-    }
 
 -- ---- what edits keep, under a condition on each of them
 
