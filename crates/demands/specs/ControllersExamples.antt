@@ -1,7 +1,7 @@
 -- A collection in two sequences, and what lies outside the claim, computed from the definitions that the calls' contracts cite.
 use mathlib.Core.Path.{_≡_, refl}
 use mathlib.Core.Bool.{true, false}
-use mathlib.Core.List.{List, [], _∷_, map}
+use mathlib.Core.List.{List, [], _∷_}
 use Prim.Native.Nat.{ℕ, _<_}
 use native.Mathlib.Omega.{arith}
 use lib.ListN.{replicate}
@@ -27,7 +27,7 @@ use Rattle.edits.specs.declared.Terminal.the-variants.{Desk}
 use Rattle.edits.specs.Edits.{limitOf, fullOf}
 use Rattle.gates.specs.Gates.{gateRules}
 use Rattle.index.specs.Calls.{putCall, deleteCall, setCall, dropCall}
-use Rattle.demands.specs.Sequences.{Edit, put, delete, setMinutes, dropTag, editCall, answerOf, Event, events, through}
+use Rattle.demands.specs.Sequences.{Edit, put, delete, setMinutes, dropTag, editCall, events, answers, through}
 use Rattle.demands.specs.Controllers.{names, clash, covered, Collection}
 
 -- calls that level and second don't tell apart: of a phone, with its minutes
@@ -47,8 +47,9 @@ one = encode 0 2 (from 0 seven (nine ∷ []) ∷ replicate 29 empty)
 other : List ℕ
 other = encode 1 3 (from 0 nine (seven ∷ []) ∷ replicate 29 empty)
 
-answers : List Edit → List ℕ → List Answer
-answers es w = map (λ (v : Event). answerOf (v .edit) (v .space)) (events es w)
+-- the answers of a sequence, and the lists of both tags after it
+ends : List Edit → List ℕ → List Answer × List Record × List Record
+ends es w = (answers es w, listOf (through es w) 7, listOf (through es w) 9)
 
 -- ---- a collection
 
@@ -86,36 +87,33 @@ within = record {
     fits : (p m : ℕ) → p < 65536 → m < 256 → Fits (call p m)
     fits p m g h = record { level = omega arith; second = omega arith; phone = g; minutes = h }
 
--- neither sequence meets a refusal, and both end with the lower phone on top, that of the call put later
-inside : (answers some one ≡ Count 2 ∷ Count 3 ∷ Count 2 ∷ Count 0 ∷ [])
-    × (answers again other ≡ Count 0 ∷ Count 0 ∷ Count 1 ∷ Count 2 ∷ [])
-    × (listOf (through some one) 7 ≡ call 2 60 ∷ call 9 3 ∷ [])
-    × (listOf (through again other) 7 ≡ call 2 60 ∷ call 9 3 ∷ [])
-    × (listOf (through some one) 9 ≡ [])
-    × (listOf (through again other) 9 ≡ [])
-unfolding some again high low gone cleared one other seven nine answers call events through editCall putCall deleteCall setCall dropCall limitOf fullOf gateRules first sized sound listOf valid decode zonesFrom encode spots settled putBy deleteBy setBy dropBy buildingFull totalAfter change settle place takeOut rewritten hasTag find blocks classOf capacity cells key look insert remove amend risingFrom bytesOf recordAt records part over get16 get32 bytes16 bytes32 equal blank
-inside = (refl, refl, refl, refl, refl, refl)
-
 -- ---- outside the claim
 
--- tempting and false: puts and a drop of the same tag. No refusal is met, and the lists differ.
-drop-last : List Edit
-drop-last = put Desk 7 (call 4 9) ∷ dropTag 7 ∷ []
+-- puts and a drop of the same tag
+new : Edit
+new = put Desk 7 (call 4 9)
 
-drop-first : List Edit
-drop-first = dropTag 7 ∷ put Desk 7 (call 4 9) ∷ []
+clashes : clash new (dropTag 7) ≡ true
+unfolding clash names new
+clashes = refl
 
-put-and-drop : (clash (put Desk 7 (call 4 9)) (dropTag 7) ≡ true)
-    × (answers drop-last one ≡ Count 2 ∷ Count 0 ∷ [])
-    × (answers drop-first one ≡ Count 0 ∷ Count 1 ∷ [])
-    × (listOf (through drop-last one) 7 ≡ [])
-    × (listOf (through drop-first one) 7 ≡ call 4 9 ∷ [])
-unfolding drop-last drop-first names clash some again one other seven nine answers call events through editCall putCall deleteCall setCall dropCall limitOf fullOf gateRules first sized sound listOf valid decode zonesFrom encode spots settled putBy deleteBy setBy dropBy buildingFull totalAfter change settle place takeOut rewritten hasTag find blocks classOf capacity cells key look insert remove amend risingFrom bytesOf recordAt records part over get16 get32 bytes16 bytes32 equal blank
-put-and-drop = (refl, refl, refl, refl, refl)
+-- and settings of one record's minutes
+minutes : ℕ → Edit
+minutes m = setMinutes 7 (key (call 3 0)) m
 
--- and two settings of one record's minutes
-two-sets : (covered (setMinutes 7 (key (call 3 0)) 1) ≡ false)
-    × (listOf (through (setMinutes 7 (key (call 3 0)) 1 ∷ setMinutes 7 (key (call 3 0)) 2 ∷ []) one) 7 ≡ call 3 2 ∷ [])
-    × (listOf (through (setMinutes 7 (key (call 3 0)) 2 ∷ setMinutes 7 (key (call 3 0)) 1 ∷ []) one) 7 ≡ call 3 1 ∷ [])
-unfolding covered some again one other seven nine answers call events through editCall putCall deleteCall setCall dropCall limitOf fullOf gateRules first sized sound listOf valid decode zonesFrom encode spots settled putBy deleteBy setBy dropBy buildingFull totalAfter change settle place takeOut rewritten hasTag find blocks classOf capacity cells key look insert remove amend risingFrom bytesOf recordAt records part over get16 get32 bytes16 bytes32 equal blank
-two-sets = (refl, refl, refl)
+not-covered : (m : ℕ) → covered (minutes m) ≡ false
+unfolding covered minutes
+not-covered m = refl
+
+-- ---- what comes of them
+
+-- No sequence meets a refusal. Those of the collection end with the lower phone on top, the one put later or the one put first;
+-- a put before a drop ends with no call of the tag, and behind it with one; and the minutes are those set last.
+cases : (ends some one ≡ (Count 2 ∷ Count 3 ∷ Count 2 ∷ Count 0 ∷ [], call 2 60 ∷ call 9 3 ∷ [], []))
+    × (ends again other ≡ (Count 0 ∷ Count 0 ∷ Count 1 ∷ Count 2 ∷ [], call 2 60 ∷ call 9 3 ∷ [], []))
+    × (ends (new ∷ dropTag 7 ∷ []) one ≡ (Count 2 ∷ Count 0 ∷ [], [], call 8 0 ∷ []))
+    × (ends (dropTag 7 ∷ new ∷ []) one ≡ (Count 0 ∷ Count 1 ∷ [], call 4 9 ∷ [], call 8 0 ∷ []))
+    × (ends (minutes 1 ∷ minutes 2 ∷ []) one ≡ (Count 1 ∷ Count 1 ∷ [], call 3 2 ∷ [], call 8 0 ∷ []))
+    × (ends (minutes 2 ∷ minutes 1 ∷ []) one ≡ (Count 1 ∷ Count 1 ∷ [], call 3 1 ∷ [], call 8 0 ∷ []))
+unfolding ends some again high low gone cleared new minutes one other seven nine answers call events through editCall putCall deleteCall setCall dropCall limitOf fullOf gateRules first sized sound listOf valid decode zonesFrom encode spots settled putBy deleteBy setBy dropBy buildingFull totalAfter change settle place takeOut rewritten hasTag find blocks classOf capacity cells key look insert remove amend risingFrom bytesOf recordAt records part over get16 get32 bytes16 bytes32 equal blank
+cases = (refl, refl, refl, refl, refl, refl)

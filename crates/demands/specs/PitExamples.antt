@@ -1,6 +1,6 @@
 -- The specification's case for the pit, computed from the definitions that the calls' contracts cite: a list of 70, then one of 63.
 use mathlib.Core.Path.{_≡_, refl}
-use mathlib.Core.List.{List, [], _∷_, map}
+use mathlib.Core.List.{List, [], _∷_}
 use Prim.Native.Nat.{ℕ, zero, suc, _+_}
 use lib.ListN.{replicate}
 use Rattle.wire.specs.Bytes.{part, over, get16, get32, bytes16, bytes32, equal, blank}
@@ -15,14 +15,13 @@ use Rattle.layout.specs.Valid.{valid}
 use Rattle.layout.specs.Edits.{put as putBy, delete as deleteBy}
 use Rattle.home.specs.Bytes.{spots, encode, decode, zonesFrom}
 use Rattle.home.specs.Sound.{sound, sized, listOf}
-use Rattle.home.specs.declared.Answer.{Answer}
 use Rattle.home.specs.declared.Answer.the-variants.{Count, Refused}
 use Rattle.moves.specs.Stored.{settled}
 use Rattle.edits.specs.declared.Terminal.the-variants.{Desk, Pit}
 use Rattle.edits.specs.Edits.{limitOf, fullOf}
 use Rattle.gates.specs.Gates.{gateRules}
 use Rattle.index.specs.Calls.{putCall, deleteCall}
-use Rattle.demands.specs.Sequences.{Edit, put, delete, editCall, answerOf, listBy, Event, events}
+use Rattle.demands.specs.Sequences.{put, delete, editCall, listBy, events, answers}
 
 -- the call of a second
 call : ℕ → Record
@@ -40,9 +39,6 @@ filled s n = encode 0 11 (zones 14)
     zones : ℕ → List Zone
     zones zero = from 0 (record { tag = 7; list = callsFrom s n }) [] ∷ replicate 15 empty
     zones (suc c) = empty ∷ zones c
-
-answers : List Edit → List ℕ → List Answer
-answers es w = map (λ (v : Event). answerOf (v .edit) (v .space)) (events es w)
 
 -- the calls ds deleted from a list, one after another
 without : List Record → List Record → List Record

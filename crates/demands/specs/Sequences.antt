@@ -1,6 +1,6 @@
 -- Edits one after another in a workspace, and turns of begin, edits and commit at an image.
 use mathlib.Core.Path.{_≡_}
-use mathlib.Core.List.{List, [], _∷_, _++_}
+use mathlib.Core.List.{List, [], _∷_, _++_, map}
 use Prim.Native.Nat.{ℕ, _<_}
 use Rattle.wire.specs.Rules.{first, Ruled, answered, left}
 use Rattle.records.specs.declared.Record.{Record}
@@ -72,6 +72,9 @@ Accepted v = (n : ℕ) × (answerOf (v .edit) (v .space) ≡ Count n)
 unfoldable pub events : List Edit → List ℕ → List Event
 events [] w = []
 events (e ∷ es) w = record { edit = e; space = w } ∷ events es (made e w)
+
+unfoldable pub answers : List Edit → List ℕ → List Answer
+answers es w = map (λ (v : Event). answerOf (v .edit) (v .space)) (events es w)
 
 -- the workspace after all of them
 unfoldable pub through : List Edit → List ℕ → List ℕ
