@@ -179,36 +179,36 @@ agree of a of' b p q e = record {
   reads = lists-read of a of' b p q e;
 }
 
-module _ (es fs : List Edit) (same : Perm es fs) (c : Collection es) (w x : List ℕ) (sw : sound w ≡ true) (sx : sound x ≡ true) (lists : (t : ℕ) → listOf w t ≡ listOf x t) where
+module _ (es fs : List Edit) (same : Perm es fs) (c : Collection es) (w w' : List ℕ) (fine : sound w ≡ true) (fine' : sound w' ≡ true) (lists : (t : ℕ) → listOf w t ≡ listOf w' t) where
   -- "applied in two sequences to workspaces with equal lists, where neither sequence meets a refusal: both end with equal lists for every tag"
-  pub two-sequences : All Accepted (events es w) → All Accepted (events fs x) → (t : ℕ) → listOf (through es w) t ≡ listOf (through fs x) t
-  two-sequences aw ax t =
-      let left : (r : Record) → In r (listOf (through es w) t) ↔ Due t r es (listOf w t) = λ r. listed-exactly t r es c w aw in
-      let right : (r : Record) → In r (listOf (through fs x) t) ↔ Due t r fs (listOf x t) = λ r. listed-exactly t r fs (reordered same c) x ax in
-      same-records 0 (listOf (through es w) t) (listOf (through fs x) t)
-      (sound-listed (through es w) t (through-sound es (c .ranged) w sw) .rising)
-      (sound-listed (through fs x) t (through-sound fs (reordered same c .ranged) x sx) .rising)
-      (λ r i. right r .1 (same-due t r same (lists t) (left r .0 i)))
-      (λ r i. left r .1 (same-due t r (psym same) (sym (lists t)) (right r .0 i)))
+  pub two-sequences : All Accepted (events es w) → All Accepted (events fs w') → (t : ℕ) → listOf (through es w) t ≡ listOf (through fs w') t
+  two-sequences a b t =
+      let one : (r : Record) → In r (listOf (through es w) t) ↔ Due t r es (listOf w t) = λ r. listed-exactly t r es c w a in
+      let other : (r : Record) → In r (listOf (through fs w') t) ↔ Due t r fs (listOf w' t) = λ r. listed-exactly t r fs (reordered same c) w' b in
+      same-records 0 (listOf (through es w) t) (listOf (through fs w') t)
+      (sound-listed (through es w) t (through-sound es (c .ranged) w fine) .rising)
+      (sound-listed (through fs w') t (through-sound fs (reordered same c .ranged) w' fine') .rising)
+      (λ r i. other r .1 (same-due t r same (lists t) (one r .0 i)))
+      (λ r i. one r .1 (same-due t r (psym same) (sym (lists t)) (other r .0 i)))
 
-  pub controllers-agree : All Accepted (events es w) → All Accepted (events fs x) → Agree Space (through es w) Space (through fs x)
+  pub controllers-agree : All Accepted (events es w) → All Accepted (events fs w') → Agree Space (through es w) Space (through fs w')
   unfolding homeIn
-  controllers-agree aw ax = agree Space (through es w) Space (through fs x)
-      (space-opens (through es w) (through-sound es (c .ranged) w sw))
-      (space-opens (through fs x) (through-sound fs (reordered same c .ranged) x sx))
-      (two-sequences aw ax)
+  controllers-agree a b = agree Space (through es w) Space (through fs w')
+      (space-opens (through es w) (through-sound es (c .ranged) w fine))
+      (space-opens (through fs w') (through-sound fs (reordered same c .ranged) w' fine'))
+      (two-sequences a b)
 
 -- ---- through commits
 
-module _ (l k : List ℕ) (p : refusal (gateRules Image l) ≡ none) (q : refusal (gateRules Image k) ≡ none) (lists : (t : ℕ) → listIn Image l t ≡ listIn Image k t) where
+module _ (l l' : List ℕ) (p : refusal (gateRules Image l) ≡ none) (p' : refusal (gateRules Image l') ≡ none) (lists : (t : ℕ) → listIn Image l t ≡ listIn Image l' t) where
   -- two images with equal lists have come to hold the edits of a collection, each in its own sequence
-  pub images-agree : {es fs : List Edit} {x y : List ℕ} → Perm es fs → Collection es → Reached es (home l) x → Reached fs (home k) y → Agree Image x Image y
+  pub images-agree : {es fs : List Edit} {x x' : List ℕ} → Perm es fs → Collection es → Reached es (home l) x → Reached fs (home l') x' → Agree Image x Image x'
   unfolding homeIn
-  images-agree {es} {fs} {x} {y} same c a b = agree Image x Image y (a .gate) (b .gate) (λ t.
+  images-agree {es} {fs} {x} {x'} same c a b = agree Image x Image x' (a .gate) (b .gate) (λ t.
       ap (λ (h : List ℕ). listOf h t) (a .bytes)
-      ∙ two-sequences es fs same c (home l) (home k) (image-open l p .fine) (image-open k q .fine) lists (a .accepted) (b .accepted) t
+      ∙ two-sequences es fs same c (home l) (home l') (image-open l p .fine) (image-open l' p' .fine) lists (a .accepted) (b .accepted) t
       ∙ ap (λ (h : List ℕ). listOf h t) (sym (b .bytes)))
 
   -- by turns, however many edits in one: each begun, made and committed, and all done
-  pub turns-agree : (us vs : List Turn) → Perm (editsOf us) (editsOf vs) → Collection (editsOf us) → AllFinished us l → AllFinished vs k → Agree Image (afterTurns us l) Image (afterTurns vs k)
-  turns-agree us vs same c f g = images-agree same c (finished us l p f) (finished vs k q g)
+  pub turns-agree : (us vs : List Turn) → Perm (editsOf us) (editsOf vs) → Collection (editsOf us) → AllFinished us l → AllFinished vs l' → Agree Image (afterTurns us l) Image (afterTurns vs l')
+  turns-agree us vs same c f g = images-agree same c (finished us l p f) (finished vs l' p' g)
