@@ -126,7 +126,7 @@ pub fn sequences(rounds: u64, rng: &mut Random, tally: &mut Tally) -> (u64, u64)
         }
     }
     let refused = rounds - clean;
-    assert!(rounds < 100 || moved > rounds / 2, "only {moved} times equal lists lie in other cells");
+    assert!(rounds < 100 || moved > rounds / 3, "only {moved} times equal lists lie in other cells");
     assert!(rounds < 100 || clean > rounds / 3 && refused > rounds / 10, "{refused} of {rounds} meet a refusal");
     (clean, refused)
 }

@@ -48,7 +48,7 @@ clash (delete t k) f = false
 clash (setMinutes t k m) f = false
 clash (dropTag t) f = false
 
--- is it a put, a delete or a drop
+-- the edits that the claim speaks of: it does not name sets of minutes
 unfoldable pub covered : Edit → Bool
 covered (put by t r) = true
 covered (delete t k) = true
@@ -117,8 +117,8 @@ module _ (t : ℕ) (r : Record) where
     λ d. ⊎-elim (λ b. absurd (not-one (λ z. q (sym (ap tagOf z))) (b .1))) (λ b. b .0) d,
   )
 
-  step : (e : Edit) → covered e ≡ true → (w w' : List ℕ) (n : ℕ) → Done w w' (tagOf e) (listBy e (listOf w (tagOf e))) n → In r (listOf w' t) ↔ Due (e ∷ []) (listOf w t)
-  step e m w w' n d =
+  one-edit : (e : Edit) → covered e ≡ true → (w w' : List ℕ) (n : ℕ) → Done w w' (tagOf e) (listBy e (listOf w (tagOf e))) n → In r (listOf w' t) ↔ Due (e ∷ []) (listOf w t)
+  one-edit e m w w' n d =
       let is : (rs : List Record) → listOf w' t ≡ rs → In r rs ↔ Due (e ∷ []) (listOf w t) → In r (listOf w' t) ↔ Due (e ∷ []) (listOf w t) =
       λ rs q h. subst (λ (xs : List Record). In r xs ↔ Due (e ∷ []) (listOf w t)) (sym q) h in
       by-eq (tagOf e) t
@@ -148,7 +148,7 @@ module _ (t : ℕ) (r : Record) where
   listed-exactly (e ∷ es) c w (more (n, q) a) =
       let c' : Collection es = record { ranged = all-tail (c .ranged); kinds = all-tail (c .kinds); apart = pairs-tail Apart e es (c .apart) } in
       let h = listed-exactly es c' (made e w) a in
-      let s = step e (all-head (c .kinds)) w (made e w) n (subst (Effect w (made e w) (tagOf e) (listBy e (listOf w (tagOf e)))) q (edit-effect e (all-head (c .ranged)) w)) in (
+      let s = one-edit e (all-head (c .kinds)) w (made e w) n (subst (Effect w (made e w) (tagOf e) (listBy e (listOf w (tagOf e)))) q (edit-effect e (all-head (c .ranged)) w)) in (
         λ i. joined e es (listOf w t) (listOf (made e w) t) (s .0) (h .0 i),
         λ d. h .1 (parted e es (listOf w t) (listOf (made e w) t) (pairs-head Apart e es (c .apart)) (s .1) d),
       )
