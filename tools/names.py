@@ -14,6 +14,7 @@ TOKEN = re.compile(r"[^\s(){}\[\],;.:`\"]+")
 DECL = re.compile(
     r"^ *(?P<words>(?:(?:unfoldable|abbrev|pub|data|record)\s+)*)(?P<name>[^\s(){}\[\],;.:]+)(?:\s*\{ℓ[^}]*\})?\s*:\s*(?P<type>.*)$"
 )
+TYPE = re.compile(r"^ *(?:pub )?(?:record|data) (?P<name>[^\s(){}\[\],;.:]+)")
 # words of the library that lemmas speak of
 STD = set(
     "length take drop get_or append map replicate set reverse zero suc add sub mul div mod min max and or not eqb leb ltb nil cons"
@@ -46,15 +47,17 @@ def main():
             depth = len(line) - len(line.lstrip(" "))
             if inside is not None and line and depth <= inside:
                 inside = None
+            m = TYPE.match(line)
+            if m:
+                definitions.add(m["name"])
+                inside = depth
+                continue
             m = DECL.match(line)
             if not m or re.match(r"[\w+-]+\.(Need-|invariant|decreases|InvT|MeasureT)", m["type"]):
                 continue
             words = m["words"].split()
             if inside is not None:
                 fields.add(m["name"])
-            elif "data" in words or "record" in words:
-                definitions.add(m["name"])
-                inside = depth
             elif "abbrev" in words or "unfoldable" in words:
                 definitions.add(m["name"])
             else:
@@ -103,7 +106,7 @@ def main():
 
         def turned(m):
             w = m[0]
-            if w not in table or w in own:
+            if w not in table or w in own or p.endswith((".rt", ".edit")) and re.fullmatch(r"[a-z0-9_]+", w):
                 return w
             # a name behind a dot is a field, or an item of a module that is named whole
             before = t[max(0, m.start() - 1) : m.start()]

@@ -8,7 +8,7 @@ use std::process::{Command, Output, Stdio};
 use std::thread;
 use std::time::Duration;
 
-const PROGRAM: &str = concat!(env!("CARGO_MANIFEST_DIR"), "/../target/bin/calls");
+const PROGRAM: &str = concat!(env!("CARGO_MANIFEST_DIR"), "/../crates/calls/out/calls");
 const INPUT: &str = concat!(env!("CARGO_MANIFEST_DIR"), "/../target/calls.in");
 
 /// Two inputs with the answers of another model, two with next to nothing, and a random one, fed as a

@@ -11,10 +11,10 @@ use Rattle.redo.specs.Store.{apply, run}
 use Rattle.redo.specs.Image.{letters, home, in_range, image_length, head_ok, head_page, empty_image}
 use Rattle.redo.specs.Entry.{Entry, entry, entries, rising, changes, logged, replay}
 use Rattle.redo.specs.Stores.{clear_mark, recover_stores, log_stores, commit_stores}
-use Rattle.log.specs.declared.Outcome.{Outcome}
-use Rattle.log.specs.declared.Outcome.TheVariants.{Done, Cut, Refused as CommitRefused}
-use Rattle.log.specs.Calls.{Plan, answer, after, log_ok, recover_rules, recover_plan, changed_pages, commit_rules, commit_plan, formattable}
-use Rattle.log.specs.FormatLaws.{format_done}
+use Rattle.image_log.specs.declared.Outcome.{Outcome}
+use Rattle.image_log.specs.declared.Outcome.TheVariants.{Done, Cut, Refused as CommitRefused}
+use Rattle.image_log.specs.Calls.{Plan, answer, after, log_ok, recover_rules, recover_plan, changed_pages, commit_rules, commit_plan, formattable}
+use Rattle.image_log.specs.FormatLaws.{format_done}
 use Rattle.layout.specs.Capacities.{capacity, cells, class_of}
 use Rattle.layout.specs.Zones.{find, blocks, has_tag, rewritten, place, take_out, settle, change}
 use Rattle.layout.specs.Sizes.{total_after}
@@ -218,10 +218,8 @@ refuses L t = rw t
 formatted : (L : ℕ) → fresh L ≡ quick L
 formatted L = by_test (in_range L 2) (formats L) (refuses L)
 
-computed : follow quick expected nothing ≡ expected
-unfolding expected follow next result laid which mended seen quick used lent of put_call limit_of full_of delete_call drop_call count_in begin_call gate_rules home_in first letters home in_range head_ok entry entries rising changes logged replay answer after head_page empty_image zeros_but clear_mark recover_stores log_ok recover_rules recover_plan log_stores commit_stores commit_rules commit_plan apply run sized sound list_of valid decode zones_from encode spots settled put delete drop_tag total_after building_full change settle place take_out rewritten has_tag find blocks class_of capacity cells key look insert remove rising_from bytes_of record_at records part over get16 get32 bytes16 bytes32 equal blank
-computed = refl
-
 pub cases : table ≡ expected
-unfolding table
-cases = ap (λ (f : ℕ → List ℕ). follow f expected nothing) (λ i. λ (L : ℕ). formatted L i) ∙ computed
+unfolding table expected follow next result laid which mended seen quick used lent of put_call limit_of full_of delete_call drop_call count_in begin_call gate_rules home_in first letters home in_range head_ok entry entries rising changes logged replay answer after head_page empty_image zeros_but clear_mark recover_stores log_ok recover_rules recover_plan log_stores commit_stores commit_rules commit_plan apply run sized sound list_of valid decode zones_from encode spots settled put delete drop_tag total_after building_full change settle place take_out rewritten has_tag find blocks class_of capacity cells key look insert remove rising_from bytes_of record_at records part over get16 get32 bytes16 bytes32 equal blank
+cases =
+    let computed : follow quick expected nothing ≡ expected = refl in
+    ap (λ (f : ℕ → List ℕ). follow f expected nothing) (λ i. λ (L : ℕ). formatted L i) ∙ computed

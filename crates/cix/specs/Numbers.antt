@@ -3,9 +3,9 @@ use Rattle.std.specs.Prelude.{◌≡◌, ℕ, ◌+◌, ◌<◌, leb, length, tak
 use Rattle.std.proofs.Common.{arith, length-take}
 use Rattle.wire.specs.Cases.{by_test}
 use Rattle.records.specs.declared.Record.{Record}
-use Rattle.log.specs.declared.Outcome.{Outcome}
-use Rattle.log.specs.declared.Outcome.TheVariants.{Done, Cut, Refused}
-use Rattle.log.specs.Calls.{Plan, refuse, store, answer}
+use Rattle.image_log.specs.declared.Outcome.{Outcome}
+use Rattle.image_log.specs.declared.Outcome.TheVariants.{Done, Cut, Refused}
+use Rattle.image_log.specs.Calls.{Plan, refuse, store, answer}
 use Rattle.home.specs.declared.Answer.{Answer}
 use Rattle.home.specs.declared.Answer.TheVariants.{Count, Refused as NotEdited}
 use Rattle.index.specs.declared.Begun.{Begun}

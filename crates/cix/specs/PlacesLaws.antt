@@ -68,7 +68,7 @@ pub lent : (of : Of) (bs : List ℕ) → refusal (gate_rules of bs) ≡ none →
 unfolding home_in home_from home
 lent Image l p =
     let r : Right l = head_right l (image_open l p).head in
-    record { part = refl; long = omega (arith, r.long, length-home l r); near = omega (arith, r.sizes.few-log, r.sizes.few-pages) }
+    record { part = refl; long = omega (arith, r.long, length-home l r); near = omega (arith, r.sizes.few_log, r.sizes.few_pages) }
 lent Space w p = record { part = refl; long = omega arith; near = omega arith }
 
 -- ---- what the code needs

@@ -1,7 +1,9 @@
 // The index for C and Rust: its calls over numbers and byte slices, each with one number as its answer.
+#![tactic(auto)]
+
 ghost use Rattle.std.specs.Prelude.{◌≡◌, ◌+◌, ◌*◌, ◌<◌};
 ghost use Rattle.wire.specs.Rules.{answered, left};
-ghost use Rattle.log.specs.Calls.{answer, after, recover_plan, commit_plan};
+ghost use Rattle.image_log.specs.Calls.{answer, after, recover_plan, commit_plan};
 ghost use Rattle.records.specs.Records.{key};
 ghost use Rattle.home.specs.Sound.{sound as isSound};
 ghost use Rattle.reads.specs.Reads.{count_in, rank_in};
@@ -14,8 +16,8 @@ use edits::Terminal;
 use gates::{Access, Of};
 use home::lookup::TagBlock;
 use home::{AREA, Answer};
+use image_log::Outcome;
 use index::Begun;
-use log::Outcome;
 use merges::Merge;
 use records::Record;
 

@@ -6,10 +6,10 @@ use Rattle.redo.specs.Store.{apply, run, halfway}
 use Rattle.redo.specs.Image.{letters, mark, home, in_range, head_ok, head_page, empty_image}
 use Rattle.redo.specs.Entry.{entry, entries, rising, changes, logged, replay}
 use Rattle.redo.specs.Stores.{clear_mark, recover_stores, log_stores, commit_stores}
-use Rattle.log.specs.declared.Outcome.{Outcome}
-use Rattle.log.specs.declared.Outcome.TheVariants.{Done, Cut, Refused}
-use Rattle.log.specs.Calls.{answer, after, log_ok, recover_rules, recover_plan, commit_rules, commit_plan, any_bytes}
-use Rattle.log.specs.Book.{Call, commit, recover, allowance, value, plan_of, rest, caught, Seen, seen, trace, final, Book, start, differing, book_rules, judge, commit_need, need_by, recover_need, report, answer_to, logs, told_mark, recovering, committing, book_at, foretold, next, book_after}
+use Rattle.image_log.specs.declared.Outcome.{Outcome}
+use Rattle.image_log.specs.declared.Outcome.TheVariants.{Done, Cut, Refused}
+use Rattle.image_log.specs.Calls.{answer, after, log_ok, recover_rules, recover_plan, commit_rules, commit_plan, any_bytes}
+use Rattle.image_log.specs.Book.{Call, commit, recover, allowance, value, plan_of, rest, caught, Seen, seen, trace, final, Book, start, differing, book_rules, judge, commit_need, need_by, recover_need, report, answer_to, logs, told_mark, recovering, committing, book_at, foretold, next, book_after}
 
 image : List ℕ
 image = empty_image 1 1 0 0

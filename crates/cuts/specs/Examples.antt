@@ -6,9 +6,9 @@ use Rattle.redo.specs.Store.{apply, run}
 use Rattle.redo.specs.Image.{letters, mark, count, home, in_range, head_ok, head_page, empty_image}
 use Rattle.redo.specs.Entry.{entry, entries, rising, changes, logged, replay}
 use Rattle.redo.specs.Stores.{format_stores, clear_mark, recover_stores, log_stores, commit_stores}
-use Rattle.log.specs.declared.Outcome.{Outcome}
-use Rattle.log.specs.declared.Outcome.TheVariants.{Done, Cut, Refused}
-use Rattle.log.specs.Calls.{answer, after, formattable, format_rules, format_plan, log_ok, recover_rules, recover_plan, commit_rules, commit_plan, any_bytes}
+use Rattle.image_log.specs.declared.Outcome.{Outcome}
+use Rattle.image_log.specs.declared.Outcome.TheVariants.{Done, Cut, Refused}
+use Rattle.image_log.specs.Calls.{answer, after, formattable, format_rules, format_plan, log_ok, recover_rules, recover_plan, commit_rules, commit_plan, any_bytes}
 
 -- the image that format leaves; its home with a byte of page 0 changed, and with one of page 26 too
 image : List ℕ

@@ -3,9 +3,13 @@
 // recovery finishes: the program counts how often that finds the old home, the new one, and anything
 // else, by how far the commit had come with its mark. Then it tries all 256 values at each of the
 // four stores to the mark.
+#![tactic(auto)]
+
 ghost use Rattle.std.specs.Prelude.{◌<◌};
 
-use log::Outcome;
+use image_log::Outcome;
+use std::io::Write;
+use std::rt::Stdout;
 
 fn is_done(o: Outcome) -> bool {
     match o {
@@ -69,7 +73,7 @@ fn value(i: usize, stood: u8, meant: u8) -> u8 {
 }
 
 // How often a recovery that finished found the old home, the new one, and anything else.
-#[derive(Drop)]
+#[derive(Clone, Copy)]
 struct Ends {
     old: usize,
     new: usize,
@@ -82,8 +86,8 @@ fn more(n: usize) -> usize {
 }
 
 fn finish(image: &mut [u8], old: &[u8], new: &[u8], ends: Ends) -> Ends {
-    let done = is_done(log::recover(image, 193));
-    let home = log::home(image);
+    let done = is_done(image_log::recover(image, 193));
+    let home = image_log::home(image);
     if done && wire::equal(home, old) {
         return Ends {
             old: more(ends.old),
@@ -126,8 +130,8 @@ fn recovery_caught(
     let mut cut = [0u8; 3704];
     load(&mut cut, image);
     let mut whole = cut;
-    log::recover(&mut cut, m);
-    log::recover(&mut whole, m + 1);
+    image_log::recover(&mut cut, m);
+    image_log::recover(&mut whole, m + 1);
     catch(&mut cut, at, i, byte(&whole, at));
     finish(&mut cut, old, new, ends)
 }
@@ -165,9 +169,9 @@ fn recoveries(image: &mut [u8], old: &[u8], new: &[u8], mut ends: Ends) -> Ends 
 
 // An image whose home is the old one, after a commit of the new one cut at n stores.
 fn commit_cut(image: &mut [u8], old: &[u8], new: &[u8], n: usize) {
-    log::format(image, 28, 2, 0, 0, 10000);
-    log::commit(image, old, 10000);
-    log::commit(image, new, n);
+    image_log::format(image, 28, 2, 0, 0, 10000);
+    image_log::commit(image, old, 10000);
+    image_log::commit(image, new, n);
 }
 
 // A commit cut at n stores, the byte of the next one caught, and then each recovery.
@@ -183,21 +187,31 @@ fn commit_caught(n: usize, i: usize, old: &[u8], new: &[u8], ends: Ends) -> Ends
     recoveries(&mut cut, old, new, ends)
 }
 
-fn number(word: &[u8], n: usize) {
-    io::write_all(1, word);
-    io::print_decimal(1, n as u64);
+fn say(out: &mut Stdout, word: &[u8]) {
+    match out.write_all(word) {
+        Ok(_) => {},
+        Err(_) => {},
+    }
 }
 
-fn line(word: &[u8], ends: Ends) {
-    io::write_all(1, word);
-    number(b": old ", ends.old);
-    number(b", new ", ends.new);
-    number(b", other ", ends.other);
-    io::write_all(1, b"\n");
+fn number(out: &mut Stdout, word: &[u8], n: usize) {
+    say(out, word);
+    match write!(out, "{n}") {
+        Ok(_) => {},
+        Err(_) => {},
+    }
+}
+
+fn line(out: &mut Stdout, word: &[u8], ends: Ends) {
+    say(out, word);
+    number(out, b": old ", ends.old);
+    number(out, b", new ", ends.new);
+    number(out, b", other ", ends.other);
+    say(out, b"\n");
 }
 
 // Each cut of the commit from one number of stores up to another, with each of the five values.
-fn commits(word: &[u8], from: usize, to: usize, old: &[u8], new: &[u8])
+fn commits(out: &mut Stdout, word: &[u8], from: usize, to: usize, old: &[u8], new: &[u8])
     requires { (from < 395) × (to < 395) }
 {
     let mut ends = Ends {
@@ -210,7 +224,7 @@ fn commits(word: &[u8], from: usize, to: usize, old: &[u8], new: &[u8])
         ends = commit_caught(j / 5, j % 5, old, new, ends);
         j += 1;
     }
-    line(word, ends);
+    line(out, word, ends);
 }
 
 // The commit's two stores to the mark, a recovery's last and the one over a spoiled mark, caught with v.
@@ -223,17 +237,17 @@ fn mark_caught(v: u8, old: &[u8], new: &[u8], ends: Ends) -> Ends {
     store(&mut image, 10, v);
     let b = recoveries(&mut image, old, new, a);
     commit_cut(&mut image, old, new, 201);
-    log::recover(&mut image, 192);
+    image_log::recover(&mut image, 192);
     store(&mut image, 10, v);
     let c = recoveries(&mut image, old, new, b);
     commit_cut(&mut image, old, new, 200);
     store(&mut image, 10, 9);
-    log::recover(&mut image, 0);
+    image_log::recover(&mut image, 0);
     store(&mut image, 10, v);
     recoveries(&mut image, old, new, c)
 }
 
-fn every_value(old: &[u8], new: &[u8]) {
+fn every_value(out: &mut Stdout, old: &[u8], new: &[u8]) {
     let mut ends = Ends {
         old: 0,
         new: 0,
@@ -244,10 +258,15 @@ fn every_value(old: &[u8], new: &[u8]) {
         ends = mark_caught(v, old, new, ends);
         v += 1;
     }
-    line(b"any value in the mark", mark_caught(255, old, new, ends));
+    line(
+        out,
+        b"any value in the mark",
+        mark_caught(255, old, new, ends),
+    );
 }
 
-fn main() {
+fn main(rt: HostRuntime) {
+    let mut out = rt.stdout();
     let mut old = [0u8; 1792];
     store(&mut old, 0, 3);
     store(&mut old, 1791, 165);
@@ -255,8 +274,8 @@ fn main() {
     store(&mut new, 63, 1);
     store(&mut new, 128, 255);
     store(&mut new, 1664, 7);
-    commits(b"mark not begun", 0, 200, &old, &new);
-    commits(b"mark caught", 200, 201, &old, &new);
-    commits(b"mark stored", 201, 394, &old, &new);
-    every_value(&old, &new);
+    commits(&mut out, b"mark not begun", 0, 200, &old, &new);
+    commits(&mut out, b"mark caught", 200, 201, &old, &new);
+    commits(&mut out, b"mark stored", 201, 394, &old, &new);
+    every_value(&mut out, &old, &new);
 }

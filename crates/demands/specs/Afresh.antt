@@ -1,5 +1,5 @@
 -- A put that is laid out afresh: the layout that it leaves, and a switch-off during its commit.
-use Rattle.std.specs.Prelude.{◌≡◌, refl, true, ◌≢◌, ℕ, ◌+◌, ◌*◌, ◌<◌, length}
+use Rattle.std.specs.Prelude.{◌≡◌, refl, true, ◌≢◌, ℕ, ◌*◌, ◌<◌, length}
 use Rattle.std.proofs.Math.Path.{sym, ap, subst}
 use Rattle.std.proofs.Common.{◌∙◌, ⊎_elim, arith}
 use Rattle.std.proofs.Math.Option.{Option, none, some}
@@ -12,9 +12,9 @@ use Rattle.records.specs.declared.Record.{Record}
 use Rattle.records.specs.Records.{Fits, insert}
 use Rattle.redo.specs.Store.{Store}
 use Rattle.redo.specs.Image.{home}
-use Rattle.log.specs.Calls.{store, answer, changed_pages, commit_plan}
-use Rattle.log.specs.Book.{Call, commit, final}
-use Rattle.log.specs.Kept.{IsRecover, Finds, Found, one_found}
+use Rattle.image_log.specs.Calls.{store, changed_pages, commit_plan}
+use Rattle.image_log.specs.Book.{Call, commit, final}
+use Rattle.image_log.specs.Kept.{IsRecover, Finds, Found, one_found}
 use Rattle.layout.specs.Capacities.{cells, class_of}
 use Rattle.layout.specs.CapacitiesLaws.{cells_mono, cells_pos, rising as rises}
 use Rattle.layout.specs.Zones.{Block, Zone, blocks, has_tag, find, place, joined, afresh, settle}

@@ -3,12 +3,12 @@ use Rattle.std.specs.Prelude.{◌≡◌, refl, Bool, true, false, not, ◌&&◌,
 use Rattle.std.proofs.Common.{sym, ap, ◌∙◌, subst, arith, leb-true, leb-false, le-leb}
 use Rattle.std.proofs.lemmas.Bool.{lt-leb, not-true}
 use Rattle.wire.specs.All.{All, all_map}
-use Rattle.wire.specs.Cases.{by_lt, by_eq, both, and_true, never}
+use Rattle.wire.specs.Cases.{by_lt, by_eq, both, and_true}
 use Rattle.records.specs.declared.Record.{Record}
 use Rattle.records.specs.Records.{remove, amend}
 use Rattle.redo.specs.Image.{mark, home, in_range, image_length}
-use Rattle.log.specs.Calls.{after}
-use Rattle.log.specs.Claim.{Starts}
+use Rattle.image_log.specs.Calls.{after}
+use Rattle.image_log.specs.Claim.{Starts}
 use Rattle.layout.specs.Zones.{blocks, tags, has_tag}
 use Rattle.layout.specs.Perm.{Perm, sum}
 use Rattle.layout.specs.PermLaws.{psym}

@@ -10,18 +10,18 @@ use Rattle.wire.specs.Cases.{by_test, never}
 use Rattle.wire.specs.Rules.{Rule, first, refusal, answered, left}
 use Rattle.wire.specs.RulesLaws.{by_refusal, first-behind, first_passed, passes_both}
 use Rattle.records.specs.declared.Record.{Record}
-use Rattle.records.specs.Records.{Fits, key, before, below, rising_from, rising, encode as recordBytes}
+use Rattle.records.specs.Records.{Fits, key, before, below, rising_from, encode as recordBytes}
 use Rattle.records.specs.Order.{before-key, rising_parts, rising-at}
 use Rattle.merges.specs.declared.Merge.{Merge}
 use Rattle.merges.specs.Merging.{merge}
 use Rattle.redo.specs.Image.{mark, home, head_ok, in_range, image_length, empty_image}
 use Rattle.redo.specs.ImageLaws.{in_range_lem, head_same}
-use Rattle.log.specs.declared.Outcome.TheVariants.{Done as Committed}
-use Rattle.log.specs.Calls.{Plan, answer, after, commit_plan}
-use Rattle.log.specs.FormatLaws.{format_done, empty_head, empty_mark, empty_home}
-use Rattle.log.specs.Book.{commit, seen, plan_of, allowance, value, final}
-use Rattle.log.specs.Claim.{Starts, holds, done_uncaught}
-use Rattle.log.specs.Kept.{completed}
+use Rattle.image_log.specs.declared.Outcome.TheVariants.{Done as Committed}
+use Rattle.image_log.specs.Calls.{Plan, answer, after, commit_plan}
+use Rattle.image_log.specs.FormatLaws.{format_done, empty_head, empty_mark, empty_home}
+use Rattle.image_log.specs.Book.{commit, seen, plan_of, allowance, value, final}
+use Rattle.image_log.specs.Claim.{Starts, holds, done_uncaught}
+use Rattle.image_log.specs.Kept.{completed}
 use Rattle.home.specs.declared.Answer.TheVariants.{Count, Refused}
 use Rattle.layout.specs.Zones.{blocks, find}
 use Rattle.home.specs.Bytes.{step_of, encode}
@@ -164,13 +164,13 @@ module _ (l : List ℕ) (L R step n : ℕ) (code : step ≤ 1) (fits : in_range 
   pub formatted-sound : sound (home made) ≡ true
   formatted-sound =
       let size = in_range_lem L R fits in
-      ap sound formatted-home ∙ sound-encode step R no_zones code size.some-pages size.few-pages (no_zones-valid step R)
+      ap sound formatted-home ∙ sound-encode step R no_zones code size.some_pages size.few_pages (no_zones-valid step R)
 
   pub formatted_empty : (t : ℕ) → list_of (home made) t ≡ []
   unfolding no_zones blocks find
   formatted_empty t =
       let size = in_range_lem L R fits in
-      ap (λ (y : List ℕ). list_of y t) formatted-home ∙ list_of-encode step R no_zones t size.few-pages (no_zones-valid step R)
+      ap (λ (y : List ℕ). list_of y t) formatted-home ∙ list_of-encode step R no_zones t size.few_pages (no_zones-valid step R)
 
   -- a list of commits and recoveries can start on it
   pub formatted-starts : Starts sound made

@@ -16,7 +16,7 @@ use Rattle.wire.specs.Rules.{Rule, rule, first, refusal, numbers}
 use Rattle.wire.specs.RulesLaws.{first-behind, refused_among, unrefused}
 use Rattle.records.specs.declared.Record.{Record}
 use Rattle.records.specs.Records.{key, look, held}
-use Rattle.log.specs.Claim.{Starts}
+use Rattle.image_log.specs.Claim.{Starts}
 use Rattle.layout.specs.Edits.{put as putBy}
 use Rattle.layout.specs.EditsLaws.{length-insert, length-remove, length-amend}
 use Rattle.home.specs.declared.Answer.TheVariants.{Count, Refused}

@@ -11,11 +11,11 @@ use Rattle.records.specs.Records.{Fits, tally, key, before, rank, many, below, i
 use Rattle.records.specs.Order.{rank-length, rank_below, rank-place, below-before, insert-below, insert_there, insert-before, insert-behind}
 use Rattle.redo.specs.Store.{Store}
 use Rattle.redo.specs.Image.{home}
-use Rattle.log.specs.declared.Outcome.TheVariants.{Done as Committed}
-use Rattle.log.specs.Calls.{store, answer, after, changed_pages, commit_plan}
-use Rattle.log.specs.Book.{Call, commit, final}
-use Rattle.log.specs.Claim.{Starts}
-use Rattle.log.specs.Kept.{IsRecover, one_found, starts}
+use Rattle.image_log.specs.declared.Outcome.TheVariants.{Done as Committed}
+use Rattle.image_log.specs.Calls.{store, answer, after, changed_pages, commit_plan}
+use Rattle.image_log.specs.Book.{Call, commit, final}
+use Rattle.image_log.specs.Claim.{Starts}
+use Rattle.image_log.specs.Kept.{IsRecover, one_found, starts}
 use Rattle.layout.specs.EditsLaws.{length-insert}
 use Rattle.home.specs.declared.Answer.{Answer}
 use Rattle.home.specs.declared.Answer.TheVariants.{Count, Refused}

@@ -4,9 +4,9 @@ use Rattle.std.specs.Prelude.{ℕ, Bool, List, []}
 use Rattle.std.proofs.Math.Option.{Option, none, some}
 use Rattle.wire.specs.Rules.{Rule, answered, left}
 use Rattle.merges.specs.declared.Merge.{Merge}
-use Rattle.log.specs.declared.Outcome.{Outcome}
-use Rattle.log.specs.declared.Outcome.TheVariants.{Done, Cut, Refused as NotStored}
-use Rattle.log.specs.Calls.{answer, after, commit_rules, commit_plan, recover_rules, recover_plan}
+use Rattle.image_log.specs.declared.Outcome.{Outcome}
+use Rattle.image_log.specs.declared.Outcome.TheVariants.{Done, Cut, Refused as NotStored}
+use Rattle.image_log.specs.Calls.{answer, after, commit_rules, commit_plan, recover_rules, recover_plan}
 use Rattle.home.specs.declared.Answer.{Answer}
 use Rattle.home.specs.declared.Answer.TheVariants.{Count, Refused}
 use Rattle.gates.specs.declared.Of.{Of}

@@ -9,7 +9,7 @@ use Rattle.wire.specs.RulesLaws.{by_refusal, first-refused, first_passed}
 use Rattle.records.specs.declared.Record.{Record}
 use Rattle.merges.specs.declared.Merge.{Merge}
 use Rattle.redo.specs.Store.{Store}
-use Rattle.log.specs.Calls.{Plan, refuse, store, answer, after, commit_plan, recover_plan}
+use Rattle.image_log.specs.Calls.{Plan, refuse, store, answer, after, commit_plan, recover_plan}
 use Rattle.home.specs.declared.Answer.TheVariants.{Refused}
 use Rattle.layout.specs.Edits.{put as putEdit, delete as deleteEdit, set_minutes as setEdit, drop_tag as dropEdit}
 use Rattle.gates.specs.declared.Of.TheVariants.{Image, Space}

@@ -3,7 +3,7 @@ use Rattle.std.specs.Prelude.{◌≡◌, List, [], ◌∷◌, ◌++◌, map, ℕ
 use Rattle.wire.specs.Rules.{first, Ruled, answered, left}
 use Rattle.records.specs.declared.Record.{Record}
 use Rattle.records.specs.Records.{Fits, insert, remove, amend}
-use Rattle.log.specs.Book.{Call, commit, recover, final}
+use Rattle.image_log.specs.Book.{Call, commit, recover, final}
 use Rattle.home.specs.declared.Answer.{Answer}
 use Rattle.home.specs.declared.Answer.TheVariants.{Count, Refused}
 use Rattle.home.specs.Sound.{sound}

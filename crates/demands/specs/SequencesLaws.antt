@@ -10,13 +10,13 @@ use Rattle.wire.specs.Rules.{refusal, left}
 use Rattle.wire.specs.RulesLaws.{by_refusal, first-refused, first_passed, passes_both}
 use Rattle.records.specs.declared.Record.{Record}
 use Rattle.redo.specs.Image.{capacity, mark, home, head_ok}
-use Rattle.log.specs.declared.Outcome.TheVariants.{Done as Committed}
-use Rattle.log.specs.Calls.{answer, after, commit_plan}
-use Rattle.log.specs.Book.{Call, commit, recover, allowance, value, plan_of, Book, start, seen, final, next}
-use Rattle.log.specs.BookLaws.{Both, recover_both, commit_both}
-use Rattle.log.specs.Holds.{Holds}
-use Rattle.log.specs.Steps.{step}
-use Rattle.log.specs.Claim.{Starts, begins, stands_of, done_uncaught}
+use Rattle.image_log.specs.declared.Outcome.TheVariants.{Done as Committed}
+use Rattle.image_log.specs.Calls.{answer, after, commit_plan}
+use Rattle.image_log.specs.Book.{Call, commit, recover, allowance, value, plan_of, Book, start, seen, final, next}
+use Rattle.image_log.specs.BookLaws.{Both, recover_both, commit_both}
+use Rattle.image_log.specs.Holds.{Holds}
+use Rattle.image_log.specs.Steps.{step}
+use Rattle.image_log.specs.Claim.{Starts, begins, stands_of, done_uncaught}
 use Rattle.layout.specs.PermLaws.{all_left, all_right}
 use Rattle.home.specs.declared.Answer.{Answer}
 use Rattle.home.specs.declared.Answer.TheVariants.{Count, Refused}

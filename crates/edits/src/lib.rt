@@ -1,4 +1,6 @@
 // The edits of a sound workspace, in place: put, delete, set minutes and drop.
+#![tactic(auto)]
+
 ghost use Rattle.std.specs.Prelude.{◌≡◌, true, false, ◌<◌};
 ghost use Rattle.layout.specs.Zones.{blocks, has_tag};
 ghost use Rattle.home.specs.Bytes.{decode};
@@ -17,10 +19,10 @@ use lists::here::{insert_here, set_here};
 use lists::read::search_at;
 use records::{Rank, Record};
 use zones::afresh::{settle, total};
-use zones::take::take_out_lem;
+use zones::take::take_out;
 
 // Who puts a call: the desk, or a terminal in the pit.
-#[derive(Drop)]
+#[derive(Clone, Copy)]
 pub enum Terminal {
     Desk,
     Pit,
@@ -195,6 +197,6 @@ pub fn drop_tag(home: &mut [u8], tag: u32) -> Answer
         return Answer::Refused(9);
     };
     let step = step_of(home);
-    take_out_lem(home, step, tag, class_of(step, n), p);
+    take_out(home, step, tag, class_of(step, n), p);
     Answer::Count(0)
 }

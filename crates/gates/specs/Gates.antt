@@ -2,7 +2,7 @@
 use Rattle.std.specs.Prelude.{ℕ, not, List, [], ◌∷◌}
 use Rattle.wire.specs.Rules.{Rule, rule}
 use Rattle.redo.specs.Image.{home, home_at}
-use Rattle.log.specs.Calls.{image_rules}
+use Rattle.image_log.specs.Calls.{image_rules}
 use Rattle.home.specs.Sound.{sized, sound}
 use Rattle.gates.specs.declared.Of.{Of}
 use Rattle.gates.specs.declared.Of.TheVariants.{Image, Space}

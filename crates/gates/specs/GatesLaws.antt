@@ -6,10 +6,10 @@ use borrow.Author.Tests.{eqb-true, eq-eqb, ne_eqb, not-false}
 use Rattle.wire.specs.Rules.{Rule, first, refusal}
 use Rattle.wire.specs.RulesLaws.{by_refusal, unrefused, first-refused, first_passed, passes}
 use Rattle.redo.specs.Image.{mark, home, home_at, head_ok}
-use Rattle.log.specs.declared.Head.TheVariants.{Bad, Clear, Committed, Spoiled}
-use Rattle.log.specs.Head.{head_of}
-use Rattle.log.specs.HeadLaws.{bad_head, clear_head, committed_head, spoiled_head}
-use Rattle.log.specs.Calls.{head_rules, image_rules}
+use Rattle.image_log.specs.declared.Head.TheVariants.{Bad, Clear, Committed, Spoiled}
+use Rattle.image_log.specs.Head.{head_of}
+use Rattle.image_log.specs.HeadLaws.{bad_head, clear_head, committed_head, spoiled_head}
+use Rattle.image_log.specs.Calls.{head_rules, image_rules}
 use Rattle.home.specs.Sound.{sized, sound}
 use Rattle.gates.specs.declared.Of.{Of}
 use Rattle.gates.specs.declared.Of.TheVariants.{Image, Space}

@@ -1,20 +1,22 @@
 // What a call is lent: whether it lets the call go on, or the refusal that it causes; and home, as a part of it.
+#![tactic(auto)]
+
 ghost use Rattle.std.specs.Prelude.{◌≡◌, ◌+◌};
 ghost use Rattle.std.proofs.Math.Option.{none};
 ghost use Rattle.wire.specs.Rules.{first, refusal};
 ghost use Rattle.gates.specs.Gates.{gate_rules, home_in, home_from};
 
-use log::Head;
+use image_log::Head;
 
 // Which of the two is lent.
-#[derive(Drop)]
+#[derive(Clone, Copy)]
 pub enum Of {
     Image,
     Space,
 }
 
 // Whether a call may go on, or is refused with its number.
-#[derive(Drop)]
+#[derive(Clone, Copy)]
 pub enum Access {
     Open,
     Refused(u8),
@@ -24,11 +26,11 @@ pub enum Access {
 fn image_gate(image: &[u8]) -> Access
     ensures { result ≡ first Access.Refused (gate_rules Of.Image image.now) Access.Open }
 {
-    let head = log::read_head(image);
+    let head = image_log::read_head(image);
     match head {
         Head::Bad => Access::Refused(1),
         Head::Clear => {
-            if sound::sound(log::home_behind(image)) {
+            if sound::sound(image_log::home_behind(image)) {
                 Access::Open
             } else {
                 Access::Refused(5)
@@ -70,7 +72,7 @@ pub fn home(of: Of, bytes: &[u8]) -> &[u8]
     ensures ref_ptr_value { (result.ref_ptr.0 ≡ bytes.entry.ref_ptr.0) × (result.ref_ptr.1 ≡ bytes.entry.ref_ptr.1 + home_from of bytes.now) }
 {
     match of {
-        Of::Image => log::home_behind(bytes),
+        Of::Image => image_log::home_behind(bytes),
         Of::Space => bytes,
     }
 }

@@ -5,7 +5,6 @@ use Rattle.std.proofs.Common.{sym, ap₂, ◌∙◌, subst, le-leb, eq-eqb, ne_e
 use Prim.Native.Nat.{ℕ, zero, suc, ◌+◌, ◌-◌, ◌≤◌, ◌<◌}
 use native.Mathlib.Omega.{arith}
 use Rattle.std.proofs.lemmas.Bool.{lt-leb}
-use Rattle.wire.specs.All.{more}
 use Rattle.wire.specs.Bytes.{get16}
 use Rattle.wire.specs.Cases.{by_eq}
 use Rattle.records.specs.Records.{tally}
@@ -96,7 +95,7 @@ at_most_one x b e = omega (arith, e, tally-small b)
 -- what is counted before the i-th entry: tags of building b, and tags beyond the eighth of theirs
 pub record Counting (h : List ℕ) (b own over i : ℕ) : Type 0 where
   pub under : i ≤ get16 h 0
-  pub of-building : own ≡ owned b (first_tags h i)
+  pub of_building : own ≡ owned b (first_tags h i)
   pub of_all : over ≡ beyond (first_tags h i)
   pub few : own ≤ i
   pub fewer : over ≤ i
@@ -104,7 +103,7 @@ pub record Counting (h : List ℕ) (b own over i : ℕ) : Type 0 where
 module _ (h : List ℕ) (b : ℕ) (s : sound h ≡ true) where
   pub count-start : Counting h b 0 0 0
   unfolding owned beyond sum up_to entries_at
-  count-start = record { under = omega arith; of-building = refl; of_all = refl; few = omega arith; fewer = omega arith }
+  count-start = record { under = omega arith; of_building = refl; of_all = refl; few = omega arith; fewer = omega arith }
 
   pub count_next : (own over i c x y : ℕ) (z : Bool) → Counting h b own over i → i < get16 h 0 → c ≡ building (tag_at h i) → x ≡ tally (eqb c b)
       → z ≡ leb 8 (owned (building (tag_at h i)) (first_tags h i)) → y ≡ tally z → Counting h b (own + x) (over + y) (i + 1)
@@ -112,8 +111,8 @@ module _ (h : List ℕ) (b : ℕ) (s : sound h ≡ true) where
       let n : i + 1 ≡ suc i = omega arith in
       rw n (record {
         under = omega arith;
-        of-building = omega (arith, k.of-building, p, ap (λ (d : ℕ). tally (eqb d b)) e, of_more h b i);
-        of_all = omega (arith, k.of-all, q, ap tally f, beyond_perm (first_more h i), beyond_more (tag_at h i) (first_tags h i) (tag_small h s i g));
+        of_building = omega (arith, k.of_building, p, ap (λ (d : ℕ). tally (eqb d b)) e, of_more h b i);
+        of_all = omega (arith, k.of_all, q, ap tally f, beyond_perm (first_more h i), beyond_more (tag_at h i) (first_tags h i) (tag_small h s i g));
         few = omega (arith, k.few, at_most_one x (eqb c b) p);
         fewer = omega (arith, k.fewer, at_most_one y z q);
       })
@@ -126,6 +125,6 @@ few_counted h t s g few = sym (few_open t (tags_of h) g (tags-small h s) (omega 
 pub count_done : (h : List ℕ) (t own over i : ℕ) → sound h ≡ true → Counting h (building t) own over i → get16 h 0 ≤ i → (leb 8 own && leb 128 over) ≡ building_full t (tags (blocks (decode h)))
 count_done h t own over i s k all =
     let e : i ≡ get16 h 0 = omega (arith, k.under) in
-    let a : own ≡ owned (building t) (tags_of h) = k.of-building ∙ ap (λ (j : ℕ). owned (building t) (first_tags h j)) e in
-    let b : over ≡ beyond (tags_of h) = k.of-all ∙ ap (λ (j : ℕ). beyond (first_tags h j)) e in
+    let a : own ≡ owned (building t) (tags_of h) = k.of_building ∙ ap (λ (j : ℕ). owned (building t) (first_tags h j)) e in
+    let b : over ≡ beyond (tags_of h) = k.of_all ∙ ap (λ (j : ℕ). beyond (first_tags h j)) e in
     ap₂ (λ (x y : ℕ). leb 8 x && leb 128 y) a b ∙ sym (full_beyond t (tags_of h) (tags-small h s) (tags_few h s)) ∙ full_perm (tags_perm h s) t

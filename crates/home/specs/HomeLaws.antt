@@ -48,6 +48,7 @@ get32-at l x at e = ap (get32 l) (sym (add-zero at)) ∙ sym (get32-drop l at 0)
 -- ---- a block
 
 pub all_mem : (rs : List Record) → All Fits rs → (r : Record) → Memᴰ r rs → Fits r
+all_mem [] f r m = elim m [ ]
 all_mem (x ∷ xs) (more f h) r (Memᴰ.head q) = rw q f
 all_mem (x ∷ xs) (more f h) r (Memᴰ.tail m) = all_mem xs h r m
 

@@ -13,14 +13,13 @@ use Rattle.wire.specs.Cases.{by_within, both}
 use Rattle.wire.specs.All.{All, all_map}
 use Rattle.layout.specs.Capacities.{cells}
 use Rattle.layout.specs.Zones.{Zone, empty, from, blocks}
-use Rattle.home.specs.Layout.{Valid, Loose}
 use Rattle.home.specs.Bytes.{Entry, Spot, spots, zone_entries, dictionary, padded, area, step_of, cell_at, zone_entry_at, zones_from, decode}
 use Rattle.home.specs.Sound.{pages_of, sound}
 use Rattle.home.specs.HomeLaws.{ReadsAt, ZeroAt, Entries, zones-back, length-dictionary, length-padded}
 use Rattle.home.specs.AreaLaws.{Clean}
 use Rattle.home.specs.JoinLaws.{join, join-count, join-entry}
 use Rattle.home.specs.EncodeLaws.{length-zones, entries_loose, clean_loose, encode-state, state}
-use Rattle.home.specs.SoundLaws.{encode-decode, sound_long, sound-small, sound-some, sound_loose, sound-valid, sound_reads}
+use Rattle.home.specs.SoundLaws.{encode-decode, sound_long, sound-small, sound_loose, sound-valid, sound_reads}
 use Rattle.home.specs.Rebuilt.{with_entries, block_entries, rebuilt, mendable}
 
 -- alike "in all other respects": in all bytes but those of the tag count and the dictionary

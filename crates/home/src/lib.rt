@@ -1,9 +1,11 @@
 // Home: the bytes of a layout, soundness and lookup.
+#![tactic(auto)]
+
 pub mod buildings;
 pub mod lookup;
 
 // What an edit, a count or a merge answers: a number of records, or refused with its number.
-#[derive(Drop)]
+#[derive(Clone, Copy)]
 pub enum Answer {
     Count(usize),
     Refused(u8),

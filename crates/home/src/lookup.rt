@@ -10,14 +10,14 @@ use crate::AREA;
 use layout::classes::cells;
 
 // Where a tag stands in the dictionary, or would stand: the entries before it.
-#[derive(Drop)]
+#[derive(Clone, Copy)]
 pub enum Slot {
     At(usize),
     Absent(usize),
 }
 
 // A tag's block: its first cell and its record count.
-#[derive(Drop)]
+#[derive(Clone, Copy)]
 pub enum TagBlock {
     Known(usize, usize),
     Unknown,

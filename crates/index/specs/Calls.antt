@@ -4,7 +4,7 @@ use Rattle.wire.specs.Rules.{Rule, rule, first, Ruled, behind}
 use Rattle.records.specs.declared.Record.{Record}
 use Rattle.redo.specs.Image.{home}
 use Rattle.redo.specs.Stores.{format_stores}
-use Rattle.log.specs.Calls.{Plan, refuse, store, formattable}
+use Rattle.image_log.specs.Calls.{Plan, refuse, store, formattable}
 use Rattle.home.specs.declared.Answer.{Answer}
 use Rattle.edits.specs.declared.Terminal.{Terminal}
 use Rattle.edits.specs.Edits.{put_in, delete_in, set_in, drop_in}

@@ -8,7 +8,7 @@ use Rattle.wire.specs.RulesLaws.{first-behind, first-refused, first_passed, refu
 use Rattle.redo.specs.Image.{capacity, pages, home_at, home}
 use Rattle.redo.specs.ImageLaws.{head_right, length-home}
 use Rattle.redo.specs.Stores.{commit_stores}
-use Rattle.log.specs.Calls.{Plan, refuse, store, changed_pages, image_rules, commit_rules, commit_plan, any_bytes}
+use Rattle.image_log.specs.Calls.{Plan, refuse, store, changed_pages, image_rules, commit_rules, commit_plan, any_bytes}
 use Rattle.home.specs.Sound.{sound}
 use Rattle.gates.specs.declared.Of.TheVariants.{Image}
 use Rattle.gates.specs.Gates.{gate_rules}

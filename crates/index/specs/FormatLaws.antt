@@ -3,7 +3,7 @@ use Rattle.std.specs.Prelude.{◌≡◌, ℕ, ◌≤◌, ◌<◌, List}
 use Rattle.std.proofs.lemmas.Bool.{lt-leb}
 use Rattle.std.proofs.Common.{le-leb}
 use Rattle.wire.specs.Rules.{first}
-use Rattle.log.specs.Calls.{refuse, format_rules as rules_of, format_plan as plan_of}
+use Rattle.image_log.specs.Calls.{refuse, format_rules as rules_of, format_plan as plan_of}
 use Rattle.index.specs.Calls.{format_rules, format_plan}
 
 module _ (l : List ℕ) (L R step : ℕ) where

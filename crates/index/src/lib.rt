@@ -1,9 +1,11 @@
 // The call index: the calls that begin, edit, commit, recover and format.
+#![tactic(auto)]
+
 ghost use Rattle.std.specs.Prelude.{◌≡◌, length, eqb};
 ghost use Rattle.std.proofs.Math.Option.{none};
 ghost use Rattle.wire.specs.Rules.{refusal, answered, left};
 ghost use Rattle.redo.specs.Image.{home as home_of};
-ghost use Rattle.log.specs.Calls.{answer, after, recover_plan, commit_plan};
+ghost use Rattle.image_log.specs.Calls.{answer, after, recover_plan, commit_plan};
 ghost use Rattle.home.specs.Sound.{sound as isSound};
 ghost use Rattle.records.specs.Records.{key};
 ghost use Rattle.gates.specs.Gates.{gate_rules};
@@ -12,11 +14,11 @@ ghost use Rattle.index.specs.Calls.{begin_call, put_call, delete_call, set_call,
 use edits::Terminal;
 use gates::{Access, Of};
 use home::Answer;
-use log::Outcome;
+use image_log::Outcome;
 use records::Record;
 
 // What begin answers.
-#[derive(Drop)]
+#[derive(Clone, Copy)]
 pub enum Begun {
     Done,
     Refused(u8),
@@ -119,7 +121,7 @@ fn commit_open(image: &mut [u8], space: &[u8], n: usize) -> Outcome
         return Outcome::Refused(6);
     }
     if sound::sound(space) {
-        log::commit_clear(image, space, n)
+        image_log::commit_clear(image, space, n)
     } else {
         Outcome::Refused(7)
     }
@@ -141,7 +143,7 @@ pub fn recover(image: &mut [u8], n: usize) -> Outcome
     ensures value { result ≡ answer (recover_plan image.old) n }
     ensures image_after { image.new ≡ after (recover_plan image.old) n image.old }
 {
-    log::recover(image, n)
+    image_log::recover(image, n)
 }
 
 // Leaves an empty index with room for L log entries and R record pages, of this step code.
@@ -153,5 +155,5 @@ pub fn format(image: &mut [u8], capacity: usize, pages: usize, step: usize, n: u
         return Outcome::Refused(14);
     }
     let code = step as u8;
-    log::format(image, capacity, pages, 122, code, n)
+    image_log::format(image, capacity, pages, 122, code, n)
 }

@@ -6,7 +6,7 @@ use Prim.Native.Nat.{ℕ, zero, suc, ◌+◌, ◌-◌, ◌≤◌, ◌<◌, min, 
 use Rattle.std.proofs.Math.Dec.{leb}
 use Rattle.std.proofs.lemmas.Bool.{lt-leb}
 use Rattle.wire.specs.Cases.{by_eq, by_lt, and_false, leb_iff}
-use Rattle.wire.specs.All.{All, none, more}
+use Rattle.wire.specs.All.{All, more}
 use Rattle.records.specs.Records.{tally}
 use Rattle.layout.specs.Perm.{Perm, sum}
 use Rattle.layout.specs.PermLaws.{plength, psum}

@@ -10,7 +10,6 @@ use borrow.Author.Tests.{eqb-true, eqb-false}
 use Rattle.wire.specs.Cases.{never}
 use Rattle.wire.specs.All.{more, all_tail}
 use Rattle.records.specs.declared.Record.{Record}
-use Rattle.records.specs.Records.{rising}
 use Rattle.layout.specs.Zones.{Block, Zone, empty, from, zone, place, has_tag, take_out, blocks, find, replaced, rewritten, settle, change}
 use Rattle.layout.specs.Perm.{Perm, pskip, pswap, ptrans, Pairs, after}
 use Rattle.layout.specs.Rising.{Rising}

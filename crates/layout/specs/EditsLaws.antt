@@ -13,7 +13,7 @@ use Rattle.wire.specs.RulesLaws.{passes}
 use Rattle.wire.specs.All.{All, none as nothing, more, all_append, all_map}
 use Rattle.wire.specs.Bytes.{is_some}
 use Rattle.records.specs.declared.Record.{Record}
-use Rattle.records.specs.Records.{Fits, key, rising, look, held, insert, remove, lasting, amend}
+use Rattle.records.specs.Records.{Fits, key, look, held, insert, remove, lasting, amend}
 use Rattle.records.specs.Order.{rising-nil, insert-rising, remove-rising, amend-rising}
 use Rattle.layout.specs.Rising.{Rising}
 use Rattle.layout.specs.Zones.{Block, Zone, empty, from, has_tag, blocks, tags, find, total, change}

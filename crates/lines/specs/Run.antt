@@ -4,9 +4,9 @@ use Rattle.wire.specs.Rules.{Ruled, answered, left}
 use Rattle.records.specs.declared.Record.{Record}
 use Rattle.records.specs.Records.{key}
 use Rattle.redo.specs.Image.{home}
-use Rattle.log.specs.declared.Outcome.{Outcome}
-use Rattle.log.specs.declared.Outcome.TheVariants.{Done, Cut, Refused}
-use Rattle.log.specs.Calls.{Plan, refuse, answer, after, commit_plan}
+use Rattle.image_log.specs.declared.Outcome.{Outcome}
+use Rattle.image_log.specs.declared.Outcome.TheVariants.{Done, Cut, Refused}
+use Rattle.image_log.specs.Calls.{Plan, refuse, answer, after, commit_plan}
 use Rattle.home.specs.Sound.{sound}
 use Rattle.home.specs.declared.Answer.{Answer}
 use Rattle.home.specs.declared.Answer.TheVariants.{Count, Refused as NotEdited}

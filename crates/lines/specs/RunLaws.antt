@@ -14,9 +14,9 @@ use Rattle.redo.specs.EntryLaws.{Long}
 use Rattle.redo.specs.Store.{Store}
 use Rattle.redo.specs.Stores.{commit_stores}
 use Rattle.redo.specs.StoresLaws.{length_commit}
-use Rattle.log.specs.declared.Outcome.TheVariants.{Cut}
-use Rattle.log.specs.Calls.{Plan, refuse, store, answer, after, changed_pages, commit_rules, commit_plan}
-use Rattle.log.specs.Logged.{long_changes}
+use Rattle.image_log.specs.declared.Outcome.TheVariants.{Cut}
+use Rattle.image_log.specs.Calls.{Plan, refuse, store, answer, after, changed_pages, commit_rules, commit_plan}
+use Rattle.image_log.specs.Logged.{long_changes}
 use Rattle.home.specs.Sound.{sound}
 use Rattle.home.specs.declared.Answer.{Answer}
 use Rattle.home.specs.declared.Answer.TheVariants.{Refused as NotEdited}
@@ -73,7 +73,7 @@ few_stores l w ok long fit = go (changed_pages l w) refl
     go [] q = omega arith
     go (x ∷ es) q =
         let r = head_right l ok in
-        omega (arith, r.sizes.few-log, r.sizes.few-pages, ap length q, length_commit (home_at l) (x ∷ es) (omega arith) (subst (All Long) q (long_changes l w ok long fit)))
+        omega (arith, r.sizes.few_log, r.sizes.few_pages, ap length q, length_commit (home_at l) (x ∷ es) (omega arith) (subst (All Long) q (long_changes l w ok long fit)))
 
 -- one that is not refused
 few_unrefused : (l w : List ℕ) → refusal (commit_rules sound l w) ≡ none → length (commit_stores (home_at l) (changed_pages l w)) ≤ plenty

@@ -1,14 +1,14 @@
 // Edits made and committed.
 ghost use Rattle.std.specs.Prelude.{◌≡◌};
 ghost use Rattle.wire.specs.Rules.{answered, left};
-ghost use Rattle.log.specs.Calls.{after, commit_plan};
+ghost use Rattle.image_log.specs.Calls.{after, commit_plan};
 ghost use Rattle.home.specs.Sound.{sound};
 ghost use Rattle.lines.specs.Run.{edit_of, plenty, outcome_reply, plan_reply, unless_refused, reply_of, image_of, left_of};
 
 use crate::Reply;
 use home::Answer;
+use image_log::Outcome;
 use index::Begun;
-use log::Outcome;
 use parse::{Command, Word};
 use records::Record;
 

@@ -11,7 +11,7 @@ use Rattle.layout.specs.CapacitiesLaws.{cells_most}
 use Rattle.layout.specs.Zones.{Zone, blocks, has_tag, find}
 use Rattle.home.specs.Bytes.{step_of, decode, list_at}
 use Rattle.home.specs.TagBlockLaws.{Entered, block_entered}
-use Rattle.home.specs.Sound.{sound, pages_of, list_of}
+use Rattle.home.specs.Sound.{pages_of, list_of}
 use Rattle.zones.specs.Known.{Known}
 use Rattle.zones.specs.KnownLaws.{find_there}
 use Rattle.zones.specs.BlockLaws.{Lying, known_lying, slot_has, slot_known}

@@ -1,9 +1,8 @@
 -- A record put into a tag's list, taken out or changed: home's bytes afterwards.
 use Rattle.std.specs.Prelude.{◌≡◌, refl, true, ◌≢◌, List, [], ◌∷◌, ◌++◌, ℕ, suc, ◌+◌, ◌-◌, ◌*◌, ◌≤◌, ◌<◌, length, take}
 use Rattle.std.proofs.Common.{sym, ap, ap₂, ◌∙◌, subst, arith, take_at}
-use Rattle.std.proofs.Math.Option.{some}
 use Rattle.records.specs.declared.Record.{Record}
-use Rattle.records.specs.Records.{key, held, rank, insert, remove, amend, encode as recordBytes, decode as recordsIn}
+use Rattle.records.specs.Records.{key, insert, remove, amend, encode as recordBytes, decode as recordsIn}
 use Rattle.records.specs.Order.{remove-at, rank-length}
 use Rattle.layout.specs.Cases.{some_is}
 use Rattle.layout.specs.Capacities.{cells, capacity, class_of}

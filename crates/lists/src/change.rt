@@ -13,7 +13,7 @@ use home::lookup::step_of;
 use layout::classes::{LONGEST_LIST, class_of, under};
 use records::Record;
 use zones::afresh::settle;
-use zones::take::take_out_lem;
+use zones::take::take_out;
 
 // The tag's list becomes this one, in a block of another class, for which there is room.
 fn move_list(home: &mut [u8], tag: u32, p: usize, n: usize, list: &[u8])
@@ -21,7 +21,7 @@ fn move_list(home: &mut [u8], tag: u32, p: usize, n: usize, list: &[u8])
     ensures { home.new ≡ changed home.old tag (recordsIn list.now) }
 {
     let step = step_of(home);
-    take_out_lem(home, step, tag, class_of(step, n), p);
+    take_out(home, step, tag, class_of(step, n), p);
     settle(home, tag, list);
 }
 
@@ -62,7 +62,7 @@ pub fn remove_record(home: &mut [u8], tag: u32, p: usize, n: usize, j: usize)
     let step = step_of(home);
     let c = class_of(step, n);
     if n == 1 {
-        take_out_lem(home, step, tag, c, p);
+        take_out(home, step, tag, c, p);
     } else if under(step, c) < n - 1 {
         remove_here(home, p, n, j);
     } else {

@@ -1,4 +1,6 @@
 // Both, either and first-without-second of two ordered lists of records in bytes.
+#![tactic(auto)]
+
 ghost use Rattle.std.specs.Prelude.{◌≡◌, [], ◌+◌, ◌*◌, ◌/◌, ◌≤◌, length, ltb};
 ghost use Rattle.wire.specs.Bytes.{over};
 ghost use Rattle.records.specs.Records.{record_at, decode, rest, tally, encode};
@@ -7,7 +9,7 @@ ghost use Rattle.merges.specs.Merging.{side, of_first, of_second, keeps, keep, n
 use records::Record;
 
 // Where the lowest call of two lists stands.
-#[derive(Drop)]
+#[derive(Clone, Copy)]
 pub enum Side {
     First,
     Shared,
@@ -15,7 +17,7 @@ pub enum Side {
 }
 
 // What is made of two lists.
-#[derive(Drop)]
+#[derive(Clone, Copy)]
 pub enum Merge {
     Both,
     Either,

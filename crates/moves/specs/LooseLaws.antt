@@ -4,7 +4,7 @@ use Rattle.std.proofs.Common.{sym, ap, ◌∙◌, subst, append_assoc, arith, le
 use Rattle.layout.specs.Capacities.{cells}
 use Rattle.layout.specs.CapacitiesLaws.{cells_mono}
 use Rattle.layout.specs.Zones.{Block, Zone, empty, from, zone, blocks, lifted, end_of, shift}
-use Rattle.layout.specs.Perm.{Perm, pnil, pskip, ptrans, Pairs, after}
+use Rattle.layout.specs.Perm.{Perm, pnil, pskip, ptrans, Pairs}
 use Rattle.layout.specs.PermLaws.{prefl, psym, pleft, pright, protate, plength, pall, ppairs}
 use Rattle.layout.specs.Valid.{Other}
 use Rattle.home.specs.Layout.{Sits, Fit, Loose}

@@ -1,4 +1,6 @@
 // Single moves in home's bytes, in place: blocks, entries of the dictionary and of the zone table.
+#![tactic(auto)]
+
 pub mod close;
 pub mod slide;
 

@@ -1,4 +1,6 @@
 // A line of text read as a command.
+#![tactic(auto)]
+
 ghost use Rattle.std.specs.Prelude.{◌≡◌, ◌-◌, ◌≤◌, ◌<◌, length};
 ghost use Rattle.wire.specs.Bytes.{part};
 ghost use Rattle.text.specs.Text.{number_of, Below};
@@ -9,7 +11,7 @@ use records::Record;
 use text::{Number, find, number_of};
 
 // A command's word; `list` is Show.
-#[derive(Drop)]
+#[derive(Clone, Copy)]
 pub enum Word {
     Put,
     Del,
@@ -19,21 +21,21 @@ pub enum Word {
 }
 
 // A field read as a word.
-#[derive(Drop)]
+#[derive(Clone, Copy)]
 pub enum Named {
     Known(Word),
     Unknown,
 }
 
 // A line's command: the word, the tag and the call.
-#[derive(Drop)]
+#[derive(Clone, Copy)]
 pub struct Command {
     pub word: Word,
     pub tag: u32,
     pub call: Record,
 }
 
-#[derive(Drop)]
+#[derive(Clone, Copy)]
 pub enum Parsed {
     Good(Command),
     Bad,

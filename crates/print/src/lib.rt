@@ -1,4 +1,6 @@
 // Answers printed. Each function writes from an offset on and answers the offset behind what it wrote.
+#![tactic(auto)]
+
 ghost use Rattle.std.specs.Prelude.{◌≡◌, ◌+◌, ◌/◌, ◌≤◌, length};
 ghost use Rattle.wire.specs.Bytes.{over};
 ghost use Rattle.records.specs.Records.{decode};

@@ -1,4 +1,6 @@
 // The reads of an image or of a workspace: count, rank, show and the merges.
+#![tactic(auto)]
+
 ghost use Rattle.std.specs.Prelude.{◌≡◌, ◌+◌};
 ghost use Rattle.wire.specs.Rules.{answered, left};
 ghost use Rattle.records.specs.Records.{key, decode};

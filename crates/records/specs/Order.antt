@@ -138,10 +138,12 @@ look_in k r (x ∷ xs) e =
     (λ d. Memᴰ.tail (look_in k r xs (sym (look_past k x xs d) ∙ e)))
 
 in_low : (low : ℕ) (r : Record) (xs : List Record) → rising_from low xs ≡ true → Memᴰ r xs → low ≤ key r
+in_low low r [] e m = elim m [ ]
 in_low low r (x ∷ xs) e (Memᴰ.head q) = let a = rising_parts low x xs e in rw q a.0
 in_low low r (x ∷ xs) e (Memᴰ.tail m) = let a = rising_parts low x xs e in let b = in_low (key x + 1) r xs a.1 m in omega arith
 
 pub in_look : (low : ℕ) (r : Record) (xs : List Record) → rising_from low xs ≡ true → Memᴰ r xs → look (key r) xs ≡ some r
+in_look low r [] e m = elim m [ ]
 in_look low r (x ∷ xs) e (Memᴰ.head q) = look_here (key r) x xs (ap key (sym q)) ∙ ap some (sym q)
 in_look low r (x ∷ xs) e (Memᴰ.tail m) =
     let a = rising_parts low x xs e in

@@ -1,10 +1,12 @@
 // Records of calls and lists of them in bytes, ordered by level, then second, then phone.
+#![tactic(auto)]
+
 ghost use Rattle.std.specs.Prelude.{◌≡◌, true, ◌+◌, ◌*◌, ◌/◌, ◌≤◌, ◌<◌, length, get_or};
 ghost use Rattle.wire.specs.Bytes.{get32, over};
 ghost use Rattle.records.specs.Records.{tally, key, record_at, bytes_of, decode, rising as ordered, ranked, below, inserted, removed, amended};
 
 // A call on record. Level, second and phone are its primary part.
-#[derive(Drop)]
+#[derive(Clone, Copy)]
 pub struct Record {
     pub level: u8,
     pub second: u32,
@@ -13,7 +15,7 @@ pub struct Record {
 }
 
 // Where a key stands in a list, or would stand: the records before it.
-#[derive(Drop)]
+#[derive(Clone, Copy)]
 pub enum Rank {
     Found(usize),
     Absent(usize),

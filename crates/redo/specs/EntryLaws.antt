@@ -228,8 +228,8 @@ logged_reads j l (more {x = e} {xs = es} r a) g =
     let first : entry rest j ≡ e =
     entry_same l₁ rest j (length-apply (logged (suc j) es) l₁) (λ i b c. kept (λ a. (entry_at (suc j) ≤ a) × (a < entry_at (suc j + length es))) l₁ i (go_logged (suc j) (all_map (λ e r. r.long) a)) (λ s. omega arith))
     ∙ entry-logged l j e r (omega arith) in
-    rw (apply-append (run (entry_at j) (bytes16 e.page ++ e.bytes)) (logged (suc j) es) l)
-    (ap₂ (λ (x : Entry) (xs : List Entry). x ∷ xs) first (logged_reads (suc j) l₁ a (omega arith)))
+    ap (λ (x : List ℕ). entry x j ∷ entries x (suc j) (length es)) (apply-append (run (entry_at j) (bytes16 e.page ++ e.bytes)) (logged (suc j) es) l)
+    ∙ ap₂ (λ (x : Entry) (xs : List Entry). x ∷ xs) first (logged_reads (suc j) l₁ a (omega arith))
 
 -- ---- home becomes the workspace
 

@@ -10,7 +10,7 @@ use Rattle.redo.specs.Image.{letters, capacity, record_pages, pages, home, in_ra
 
 -- sizes in range
 pub record Sizes (L R : ℕ) : Type 0 where
-  pub some-pages : 1 ≤ R
+  pub some_pages : 1 ≤ R
   pub few_pages : R ≤ 1024
   pub some_log : 1 ≤ L
   pub few_log : L ≤ 26 + R
@@ -22,7 +22,7 @@ in_range_lem L R e =
     let b = both (leb 1 R && leb R 1024) (leb 1 L) a.0 in
     let c = both (leb 1 R) (leb R 1024) b.0 in
     record {
-      some-pages = leb-true 1 R c.0;
+      some_pages = leb-true 1 R c.0;
       few_pages = leb-true R 1024 c.1;
       some_log = leb-true 1 L b.1;
       few_log = leb-true L (26 + R) a.1;

@@ -79,14 +79,14 @@ unfolding run
 go_run P a [] f = none
 go_run P a (b ∷ bs) f = more (f a (omega arith) (omega arith)) (go_run P (suc a) bs (λ i g h. f i (omega arith) (omega arith)))
 
-untouched : {ss : List Store} (l : List ℕ) (i : ℕ) → Go (λ a. a ≢ i) ss → get_or (apply ss l) i 0 ≡ get_or l i 0
+untouched : (i : ℕ) {ss : List Store} (l : List ℕ) → Go (λ a. a ≢ i) ss → get_or (apply ss l) i 0 ≡ get_or l i 0
 unfolding apply
-untouched l i none = refl
-untouched l i (more {x = s} f a) = untouched (set l s.at s.byte) i a ∙ get_or-set_other l s.at i s.byte 0 (λ e. f (sym e))
+untouched i l none = refl
+untouched i l (more {x = s} f a) = untouched i (set l s.at s.byte) a ∙ get_or-set_other l s.at i s.byte 0 (λ e. f (sym e))
 
 -- a byte that no store goes to stays
 pub kept : (P : ℕ → Type 0) {ss : List Store} (l : List ℕ) (i : ℕ) → Go P ss → (P i → ⊥) → get_or (apply ss l) i 0 ≡ get_or l i 0
-kept P l i a f = untouched l i (all_map (λ s p e. f (subst P e p)) a)
+kept P l i a f = untouched i l (all_map (λ s p e. f (subst P e p)) a)
 
 pub drop-kept : (h : ℕ) {ss : List Store} (l : List ℕ) → Go (λ a. a < h) ss → drop h (apply ss l) ≡ drop h l
 drop-kept h {ss} l a =

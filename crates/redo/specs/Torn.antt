@@ -56,7 +56,7 @@ pub data Hits (i : ℕ) : List Store → Type 0 where
   there : {s : Store} {ss : List Store} → Hits i ss → Hits i (s ∷ ss)
 
 -- an earlier store to an offset that ss stores to as well is of no effect
-hit_lost : {ss : List Store} (i b : ℕ) (l : List ℕ) → Hits i ss → apply ss (set l i b) ≡ apply ss l
+hit_lost : (i : ℕ) {ss : List Store} (b : ℕ) (l : List ℕ) → Hits i ss → apply ss (set l i b) ≡ apply ss l
 unfolding apply
 hit_lost i b l (here {s = s} e) = rw (← e, set-set)
 hit_lost i b l (there {s = s} {ss = ss} h) = elim (ℕ_discrete i s.at) [

@@ -4,7 +4,7 @@ ghost use Rattle.wire.specs.Bytes.{zeros_but};
 ghost use Rattle.redo.specs.Store.{run};
 ghost use Rattle.redo.specs.Stage.{Makes};
 
-#[derive(Drop)]
+#[derive(Clone, Copy)]
 pub struct Meter {
     pub left: usize,
     pub made: usize,

@@ -1,4 +1,6 @@
 // A cell for a block, by the same rule for a new block and for one that it displaces.
+#![tactic(auto)]
+
 ghost use Rattle.std.specs.Prelude.{◌≡◌, ◌+◌, ◌*◌, ◌-◌, ◌≤◌, ◌<◌, length};
 ghost use Rattle.std.proofs.Math.Option.{get_or};
 ghost use Rattle.layout.specs.Capacities.{cells as size_of};
@@ -11,7 +13,7 @@ use layout::classes::cells;
 use moves::{move_block, set_zone};
 
 // The room for a block: its cell.
-#[derive(Drop)]
+#[derive(Clone, Copy)]
 pub enum Room {
     At(usize),
     Nowhere,

@@ -30,11 +30,11 @@ use Rattle.sound.specs.CheckLoopLaws.{end_inside}
 use Rattle.sound.specs.Checks.{coded, block_fine, blocks_fine, zone_fine, zones_fine, many_in, leads, tags_fine, checked, starts}
 use Rattle.layout.specs.PermLaws.{all_left, all_right, map_in}
 use Rattle.home.specs.BytesLaws.{chop, get32-small, records_fit, bytes16_read, bytes32_read}
-use Rattle.home.specs.AreaLaws.{laid_fit, Clean}
+use Rattle.home.specs.AreaLaws.{Clean}
 use Rattle.home.specs.HomeLaws.{ReadsAt, ZeroAt, length-spots, length-dictionary}
 use Rattle.home.specs.Rebuilt.{with_entries, block_entries, rebuilt}
 use Rattle.home.specs.RebuiltLaws.{Elsewhere, with_elsewhere, with_count, with_dictionary, with_same, front_elsewhere, area_elsewhere}
-use Rattle.home.specs.SoundLaws.{Sized, t_sized}
+use Rattle.home.specs.SoundLaws.{t_sized}
 use Rattle.home.specs.DictionaryLaws.{Else, Below, dictionary-of, distinct-tags, zone-spots}
 use Rattle.home.specs.EncodeLaws.{area_loose, clean_loose, length_loose, reads_loose, valid_loose}
 

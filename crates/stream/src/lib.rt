@@ -1,4 +1,6 @@
 // Input in pieces, split into lines, each answered.
+#![tactic(auto)]
+
 ghost use Rattle.std.specs.Prelude.{◌≡◌, ◌++◌, ◌+◌, ◌≤◌, ◌<◌, length, take};
 ghost use Rattle.wire.specs.Bytes.{over};
 ghost use Rattle.parse.specs.Grammar.{parsed};
@@ -12,7 +14,7 @@ use print::LONGEST;
 use text::find;
 
 // Of a piece: the bytes used, the bytes held of a line still open, the bytes printed.
-#[derive(Drop)]
+#[derive(Clone, Copy)]
 pub struct Fed {
     pub used: usize,
     pub held: usize,

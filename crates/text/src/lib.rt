@@ -1,10 +1,12 @@
 // Numbers and fields in text: decimal numbers read and written, and where a byte stands.
+#![tactic(auto)]
+
 ghost use Rattle.std.specs.Prelude.{◌≡◌, ◌+◌, ◌≤◌, ◌<◌, length, drop};
 ghost use Rattle.wire.specs.Bytes.{over};
 ghost use Rattle.text.specs.Text.{before, leads, number_of, digits, field};
 
 // A field read as a number.
-#[derive(Drop)]
+#[derive(Clone, Copy)]
 pub enum Number {
     Value(u32),
     NoNumber,

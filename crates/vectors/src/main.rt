@@ -7,22 +7,26 @@
 // d delete, s set, x drop. Calls on the image: f format, L and R in place of tag and second; b begin; c commit and
 // r recover, the allowance in place of the tag. Words: ok a count, no a refusal, dn done, ct cut. A sequence is
 // headed by n with L and R as for format, and ends with a line of dashes.
-ghost use Rattle.std.specs.Prelude.{◌<◌};
+#![tactic(auto)]
+
+ghost use Rattle.std.specs.Prelude.{◌<◌, ◌≤◌, length};
 
 use home::Answer;
+use image_log::Outcome;
 use index::Begun;
-use log::Outcome;
 use records::Record;
+use std::io::{Read, Write};
+use std::rt::{Stdin, Stdout};
 
 // An answer's word, by its first letter, and its number.
-#[derive(Drop)]
+#[derive(Clone, Copy)]
 struct Told {
     word: u8,
     number: usize,
 }
 
 // Calls, answers as told, checksums told, checksums as told.
-#[derive(Drop)]
+#[derive(Clone, Copy)]
 struct Tally {
     calls: usize,
     answers: usize,
@@ -30,12 +34,18 @@ struct Tally {
     sums: usize,
 }
 
-fn word(text: &[u8]) {
-    io::write_all(1, text);
+fn word(out: &mut Stdout, text: &[u8]) {
+    match out.write_all(text) {
+        Ok(_) => {},
+        Err(_) => {},
+    }
 }
 
-fn number(n: usize) {
-    io::print_decimal(1, n as u64);
+fn number(out: &mut Stdout, n: usize) {
+    match write!(out, "{n}") {
+        Ok(_) => {},
+        Err(_) => {},
+    }
 }
 
 // ---- checksums
@@ -68,9 +78,34 @@ fn crc32(s: &[u8]) -> u32 {
 
 // ---- lines
 
+// One read; none at the end of the input, or where reading fails.
+fn read_some(input: &mut Stdin, buf: &mut [u8]) -> usize
+    ensures { result ≤ length buf.new }
+{
+    match input.read(buf) {
+        Ok(n) => n,
+        Err(_) => 0,
+    }
+}
+
+// Reads until the buffer is full or the input ends; how many bytes came.
+fn read_full(input: &mut Stdin, buf: &mut [u8]) -> usize
+    ensures { result ≤ length buf.new }
+{
+    let mut done = 0;
+    while done < buf.len() {
+        let n = read_some(input, &mut buf[done..]);
+        if n == 0 {
+            return done;
+        }
+        done += n;
+    }
+    done
+}
+
 // Reads a line; false at the end of a sequence or of the input.
-fn next_line(line: &mut [u8]) -> bool {
-    io::read_full(0, line) == 48 && byte(line, 0) != b'-'
+fn next_line(input: &mut Stdin, line: &mut [u8]) -> bool {
+    read_full(input, line) == 48 && byte(line, 0) != b'-'
 }
 
 fn byte(line: &[u8], at: usize) -> u8 {
@@ -246,18 +281,24 @@ fn counted(t: Tally, image: &mut [u8], space: &mut [u8], line: &[u8]) -> Tally {
     }
 }
 
-fn report(t: Tally) {
-    number(t.calls);
-    word(b" calls; as in the model: ");
-    number(t.answers);
-    word(b" answers, ");
-    number(t.sums);
-    word(b" of ");
-    number(t.told);
-    word(b" checksums\n");
+fn report(out: &mut Stdout, t: Tally) {
+    number(out, t.calls);
+    word(out, b" calls; as in the model: ");
+    number(out, t.answers);
+    word(out, b" answers, ");
+    number(out, t.sums);
+    word(out, b" of ");
+    number(out, t.told);
+    word(out, b" checksums\n");
 }
 
-fn sequence(image: &mut [u8], space: &mut [u8], line: &mut [u8]) {
+fn sequence(
+    input: &mut Stdin,
+    out: &mut Stdout,
+    image: &mut [u8],
+    space: &mut [u8],
+    line: &mut [u8],
+) {
     let mut t = Tally {
         calls: 0,
         answers: 0,
@@ -265,35 +306,37 @@ fn sequence(image: &mut [u8], space: &mut [u8], line: &mut [u8]) {
         sums: 0,
     };
     let mut left: usize = 10000;
-    let mut more = next_line(line);
+    let mut more = next_line(input, line);
     while left > 0 && more {
         left -= 1;
         t = counted(t, image, space, line);
-        more = next_line(line);
+        more = next_line(input, line);
     }
-    report(t);
+    report(out, t);
 }
 
-fn head(capacity: usize, pages: usize) {
+fn head(out: &mut Stdout, capacity: usize, pages: usize) {
     if capacity == 0 {
-        word(b"workspace");
+        word(out, b"workspace");
     } else {
-        word(b"L ");
-        number(capacity);
+        word(out, b"L ");
+        number(out, capacity);
     }
-    word(b", R ");
-    number(pages);
-    word(b": ");
+    word(out, b", R ");
+    number(out, pages);
+    word(out, b": ");
 }
 
 // The sequence that a line heads, on an empty workspace and an image of zeros.
-fn headed(line: &mut [u8]) {
+fn headed(input: &mut Stdin, out: &mut Stdout, line: &mut [u8]) {
     let mut image = [0u8; 8192];
     let mut space = [0u8; 8192];
     let capacity = tag(line) as usize % 64;
     let pages = second(line) as usize % 64;
-    head(capacity, pages);
+    head(out, capacity, pages);
     lend(
+        input,
+        out,
         &mut image,
         &mut space,
         line,
@@ -302,23 +345,31 @@ fn headed(line: &mut [u8]) {
     );
 }
 
-fn lend(image: &mut [u8], space: &mut [u8], line: &mut [u8], m: usize, n: usize) {
+fn lend(
+    input: &mut Stdin,
+    out: &mut Stdout,
+    image: &mut [u8],
+    space: &mut [u8],
+    line: &mut [u8],
+    m: usize,
+    n: usize,
+) {
     if m <= image.len() && n <= space.len() {
-        sequence(&mut image[0..m], &mut space[0..n], line);
+        sequence(input, out, &mut image[0..m], &mut space[0..n], line);
     }
 }
 
-fn sequences(line: &mut [u8]) {
+fn sequences(input: &mut Stdin, out: &mut Stdout, line: &mut [u8]) {
     let mut left: usize = 100;
-    let mut more = next_line(line);
+    let mut more = next_line(input, line);
     while left > 0 && more {
         left -= 1;
-        headed(line);
-        more = next_line(line);
+        headed(input, out, line);
+        more = next_line(input, line);
     }
 }
 
-fn main() {
+fn main(rt: HostRuntime) {
     let mut line = [0u8; 48];
-    sequences(&mut line);
+    sequences(&mut rt.stdin(), &mut rt.stdout(), &mut line);
 }

@@ -1,4 +1,6 @@
 // Numbers and runs of bytes in slices. Numbers are unsigned, most significant byte first.
+#![tactic(auto)]
+
 ghost use Rattle.std.specs.Prelude.{◌≡◌, ◌+◌, ◌≤◌, ◌<◌, length, get_or, replicate};
 ghost use Rattle.wire.specs.Bytes.{get16 as number16, get32 as number32, bytes16 as digits16, bytes32 as digits32, part, over, equal as same, blank};
 
@@ -75,7 +77,7 @@ pub fn copy(dst: &mut [u8], at: usize, src: &[u8])
     ensures { dst.new ≡ over dst.old at src.now }
 {
     let end = at + src.len();
-    bytes::copy(src, &mut dst[at..end]);
+    dst[at..end].copy_from_slice(src);
 }
 
 // Copies n bytes to a place behind theirs, from the last one down, so that each is read before it is written over.

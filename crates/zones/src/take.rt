@@ -47,7 +47,7 @@ fn remove_block(home: &mut [u8], step: usize, tag: u32, c: usize, p: usize)
 }
 
 // Takes the tag's block of class c at cell p out, and closes up.
-pub fn take_out_lem(home: &mut [u8], step: usize, tag: u32, c: usize, p: usize)
+pub fn take_out(home: &mut [u8], step: usize, tag: u32, c: usize, p: usize)
     requires { Known step (pages_of home.old) home.old (decode home.old) tag c p }
     ensures { home.new ≡ encode step (pages_of home.old) (take_out (size_of step) tag 0 0 (decode home.old)) }
 {

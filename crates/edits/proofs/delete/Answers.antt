@@ -1,0 +1,11 @@
+use mathlib.Core.Path.{sym, ◌∙◌}
+use Rattle.edits.specs.EditsLaws.{absent_new, unknown_held, delete-none}
+use Rattle.edits.proofs.delete.Goals as goal
+
+pub delete_known-requires : goal.delete_known-requires
+delete_known-requires c = record { sound = c.requires; block = sym c.block_of.ensures ∙ c.in-Known.is }
+
+pub returns-in-Unknown : goal.returns-in-Unknown
+returns-in-Unknown c =
+    let r = delete-none _ _ _ (unknown_held _ _ c.requires (absent_new _ _ c.requires (sym c.block_of.ensures ∙ c.in-Unknown.is)) _) in
+    record { value = r.0; home_after = r.1 }

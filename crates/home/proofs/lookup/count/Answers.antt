@@ -1,0 +1,12 @@
+use mathlib.Core.Path.{sym, ap, ◌∙◌}
+use lib.ListN.{length}
+use Rattle.home.specs.TagBlockLaws.{list_at_lem, list-none}
+use Rattle.home.proofs.lookup.count.Goals as goal
+
+pub returns-in-Known : goal.returns-in-Known
+returns-in-Known c = (list_at_lem c.args.home.now c.args.tag _ _ c.requires (sym c.block_of.ensures ∙ c.in-Known.is)).count
+
+pub returns-in-Unknown : goal.returns-in-Unknown
+returns-in-Unknown c =
+    let a = c.args in
+    sym (ap length (list-none a.home.now a.tag c.requires (sym c.block_of.ensures ∙ c.in-Unknown.is)))

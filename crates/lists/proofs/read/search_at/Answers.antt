@@ -1,0 +1,10 @@
+use mathlib.Core.Path.{ap, ◌∙◌}
+use Rattle.records.specs.Records.{ranked as rankedIn}
+use Rattle.lists.specs.ListedLaws.{part-records}
+use Rattle.lists.proofs.read.search_at.Goals as goal
+
+pub search-requires : goal.search-requires
+search-requires c = rw (part-records _ _ _ c.requires.0) c.requires.1
+
+pub returns : goal.returns
+returns c = c.search.ensures ∙ ap (rankedIn c.args.key) (part-records _ _ _ c.requires.0)

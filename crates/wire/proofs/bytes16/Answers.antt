@@ -1,0 +1,7 @@
+use mathlib.Core.Path.{refl}
+use Rattle.wire.specs.Bytes.{bytes16}
+use Rattle.wire.proofs.bytes16.Goals as goal
+
+pub returns : goal.returns
+unfolding bytes16
+returns c = refl
