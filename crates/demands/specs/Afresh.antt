@@ -14,16 +14,17 @@ use Rattle.redo.specs.Store.{Store}
 use Rattle.redo.specs.Image.{home}
 use Rattle.image_log.specs.Calls.{store, changed_pages, commit_plan}
 use Rattle.image_log.specs.Book.{Call, commit, final}
-use Rattle.image_log.specs.Kept.{IsRecover, Finds, Found, one_found}
+use Rattle.image_log.specs.Kept.{IsRecover, Finds, Found}
+use Rattle.image_log.proofs.Kept.{one_found}
 use Rattle.layout.specs.Capacities.{cells, class_of}
 use Rattle.layout.specs.CapacitiesLaws.{cells_mono, cells_pos, rising as rises}
 use Rattle.layout.specs.Zones.{Block, Zone, blocks, has_tag, find, place, joined, afresh, settle}
 use Rattle.home.specs.Layout.{change}
 use Rattle.wire.specs.Bytes.{is_some}
 use Rattle.layout.specs.Edits.{put}
-use Rattle.layout.specs.EditsLaws.{length-insert, put_fine}
+use Rattle.layout.proofs.EditsLaws.{length-insert, put_fine}
 use Rattle.layout.specs.Afresh.{by_class, behind, Gapless, just_before}
-use Rattle.layout.specs.AfreshLaws.{settle-afresh, change_settles}
+use Rattle.layout.proofs.AfreshLaws.{settle-afresh, change_settles}
 use Rattle.home.specs.Bytes.{step_of, encode, decode}
 use Rattle.home.specs.Sound.{sound, pages_of, list_of}
 use Rattle.home.specs.declared.Answer.{Answer}

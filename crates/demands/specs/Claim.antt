@@ -11,11 +11,14 @@ use Rattle.image_log.specs.declared.Outcome.{Outcome}
 use Rattle.image_log.specs.declared.Outcome.TheVariants.{Done, Refused}
 use Rattle.image_log.specs.Calls.{store, answer, changed_pages, commit_plan}
 use Rattle.image_log.specs.Book.{Call, commit, recover, value, plan_of, Seen, trace, final, Book, start, differing, Verdict, refused, writes, book_rules, judge, commit_need, recover_need, report, answer_to, foretold, next, book_after, left_by, told, ledger}
-use Rattle.image_log.specs.Claim.{Starts, Claim, claim}
-use Rattle.image_log.specs.Kept.{book_of, committed, IsRecover, Found, switched_off, completed}
-use Rattle.image_log.specs.Last.{Tells, marks_at, kept, logged, last_kept}
+use Rattle.image_log.specs.Claim.{Starts, Claim}
+use Rattle.image_log.proofs.Claim.{claim}
+use Rattle.image_log.specs.Kept.{book_of, committed, IsRecover, Found}
+use Rattle.image_log.proofs.Kept.{switched_off, completed}
+use Rattle.image_log.specs.Last.{Tells, marks_at, kept, logged}
+use Rattle.image_log.proofs.Last.{last_kept}
 use Rattle.image_log.specs.Uncaught.{plain_start, plain_after, Uncaught, PlainClaim}
-use Rattle.image_log.specs.UncaughtLaws.{uncaught_claim}
+use Rattle.image_log.proofs.UncaughtLaws.{uncaught_claim}
 use Rattle.layout.specs.Cases.{by_pick}
 use Rattle.home.specs.Sound.{sound}
 

@@ -16,10 +16,10 @@ use Rattle.layout.specs.Zones.{Zone}
 use Rattle.home.specs.Layout.{change}
 use Rattle.layout.specs.Cases.{Holds}
 use Rattle.wire.specs.Bytes.{is_some}
-use Rattle.layout.specs.ChangeLaws.{Changed}
+use Rattle.layout.proofs.ChangeLaws.{Changed}
 use Rattle.layout.specs.Edits.{Edit as EditBy, put as putBy, delete as deleteBy, set_minutes as setBy, drop_tag as dropBy}
 use Rattle.layout.specs.CapacitiesLaws.{rising as rises}
-use Rattle.layout.specs.EditsLaws.{Fine, changed, put_fine, delete_fine, set_fine, drop_fine}
+use Rattle.layout.proofs.EditsLaws.{Fine, changed, put_fine, delete_fine, set_fine, drop_fine}
 use Rattle.home.specs.Bytes.{step_of, decode}
 use Rattle.home.specs.Sound.{sound, pages_of, list_of}
 use Rattle.home.specs.SoundLaws.{sound_code, sound-encode, list_of-encode, sound-some, sound-small, sound_long, sound-valid}

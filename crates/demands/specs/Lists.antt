@@ -20,8 +20,9 @@ use Rattle.image_log.specs.declared.Outcome.TheVariants.{Done as Committed}
 use Rattle.image_log.specs.Calls.{Plan, answer, after, commit_plan}
 use Rattle.image_log.specs.FormatLaws.{format_done, empty_head, empty_mark, empty_home}
 use Rattle.image_log.specs.Book.{commit, seen, plan_of, allowance, value, final}
-use Rattle.image_log.specs.Claim.{Starts, holds, done_uncaught}
-use Rattle.image_log.specs.Kept.{completed}
+use Rattle.image_log.specs.Claim.{Starts}
+use Rattle.image_log.proofs.Claim.{holds, done_uncaught}
+use Rattle.image_log.proofs.Kept.{completed}
 use Rattle.home.specs.declared.Answer.TheVariants.{Count, Refused}
 use Rattle.layout.specs.Zones.{blocks, find}
 use Rattle.home.specs.Bytes.{step_of, encode}

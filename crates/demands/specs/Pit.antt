@@ -18,7 +18,7 @@ use Rattle.records.specs.declared.Record.{Record}
 use Rattle.records.specs.Records.{key, look, held}
 use Rattle.image_log.specs.Claim.{Starts}
 use Rattle.layout.specs.Edits.{put as putBy}
-use Rattle.layout.specs.EditsLaws.{length-insert, length-remove, length-amend}
+use Rattle.layout.proofs.EditsLaws.{length-insert, length-remove, length-amend}
 use Rattle.home.specs.declared.Answer.TheVariants.{Count, Refused}
 use Rattle.home.specs.Sound.{sound, list_of}
 use Rattle.edits.specs.declared.Terminal.{Terminal}

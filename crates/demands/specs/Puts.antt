@@ -15,7 +15,7 @@ use Rattle.records.specs.Records.{key, look, held, insert}
 use Rattle.layout.specs.Zones.{blocks, tags, has_tag}
 use Rattle.layout.specs.Buildings.{building_full}
 use Rattle.layout.specs.Edits.{put as putBy}
-use Rattle.layout.specs.EditsLaws.{length-insert}
+use Rattle.layout.proofs.EditsLaws.{length-insert}
 use Rattle.home.specs.declared.Answer.TheVariants.{Count, Refused}
 use Rattle.home.specs.Layout.{total_after}
 use Rattle.home.specs.Bytes.{step_of, decode}

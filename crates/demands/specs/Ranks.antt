@@ -15,8 +15,9 @@ use Rattle.image_log.specs.declared.Outcome.TheVariants.{Done as Committed}
 use Rattle.image_log.specs.Calls.{store, answer, after, changed_pages, commit_plan}
 use Rattle.image_log.specs.Book.{Call, commit, final}
 use Rattle.image_log.specs.Claim.{Starts}
-use Rattle.image_log.specs.Kept.{IsRecover, one_found, starts}
-use Rattle.layout.specs.EditsLaws.{length-insert}
+use Rattle.image_log.specs.Kept.{IsRecover}
+use Rattle.image_log.proofs.Kept.{one_found, starts}
+use Rattle.layout.proofs.EditsLaws.{length-insert}
 use Rattle.home.specs.declared.Answer.{Answer}
 use Rattle.home.specs.declared.Answer.TheVariants.{Count, Refused}
 use Rattle.home.specs.Sound.{sound, list_of}

@@ -13,7 +13,8 @@ use Rattle.redo.specs.Image.{mark, home}
 use Rattle.image_log.specs.declared.Outcome.TheVariants.{Done as Committed}
 use Rattle.image_log.specs.Calls.{Plan, refuse, store, answer, after, recover_rules, recover_plan, changed_pages, commit_plan}
 use Rattle.image_log.specs.Book.{Call, commit, recover, allowance, value, plan_of, rest, caught, seen, final}
-use Rattle.image_log.specs.Kept.{IsRecover, is_recover, one_found}
+use Rattle.image_log.specs.Kept.{IsRecover, is_recover}
+use Rattle.image_log.proofs.Kept.{one_found}
 use Rattle.home.specs.Sound.{sound}
 use Rattle.gates.specs.declared.Of.TheVariants.{Image}
 use Rattle.gates.specs.Gates.{gate_rules}

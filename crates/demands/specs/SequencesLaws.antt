@@ -13,10 +13,11 @@ use Rattle.redo.specs.Image.{capacity, mark, home, head_ok}
 use Rattle.image_log.specs.declared.Outcome.TheVariants.{Done as Committed}
 use Rattle.image_log.specs.Calls.{answer, after, commit_plan}
 use Rattle.image_log.specs.Book.{Call, commit, recover, allowance, value, plan_of, Book, start, seen, final, next}
-use Rattle.image_log.specs.BookLaws.{Both, recover_both, commit_both}
+use Rattle.image_log.proofs.BookLaws.{Both, recover_both, commit_both}
 use Rattle.image_log.specs.Holds.{Holds}
-use Rattle.image_log.specs.Steps.{step}
-use Rattle.image_log.specs.Claim.{Starts, begins, stands_of, done_uncaught}
+use Rattle.image_log.proofs.Steps.{step}
+use Rattle.image_log.specs.Claim.{Starts}
+use Rattle.image_log.proofs.Claim.{begins, stands_of, done_uncaught}
 use Rattle.layout.specs.PermLaws.{all_left, all_right}
 use Rattle.home.specs.declared.Answer.{Answer}
 use Rattle.home.specs.declared.Answer.TheVariants.{Count, Refused}

@@ -26,10 +26,10 @@ use Rattle.layout.specs.Zones.{Zone, blocks, tags, has_tag, find, total, change 
 use Rattle.layout.specs.Buildings.{building_full}
 use Rattle.home.specs.Layout.{change, total_after, put}
 use Rattle.layout.specs.Sizes.{block_size, total_after as totalAfterBy}
-use Rattle.layout.specs.AfreshLaws.{size-some}
+use Rattle.layout.proofs.AfreshLaws.{size-some}
 use Rattle.layout.specs.Edits.{Edit, record_rules, put as putBy, delete, set_minutes, drop_tag}
 use Rattle.layout.specs.CapacitiesLaws.{rising as rises}
-use Rattle.layout.specs.EditsLaws.{length-amend, exactly, had_size, total-low}
+use Rattle.layout.proofs.EditsLaws.{length-amend, exactly, had_size, total-low}
 use Rattle.home.specs.HomeLaws.{all_mem}
 use Rattle.home.specs.Bytes.{step_of, decode}
 use Rattle.home.specs.Sound.{sound, pages_of, list_of}

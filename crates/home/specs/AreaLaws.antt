@@ -15,7 +15,7 @@ use Rattle.layout.specs.Perm.{Pairs, single, after}
 use Rattle.home.specs.Layout.{Sits, Laid, Fit}
 use Rattle.home.specs.Bytes.{block_bytes, Spot, row, spots, paint, area}
 use Rattle.layout.specs.PermLaws.{pairs_append}
-use Rattle.layout.specs.AfreshLaws.{laid_fit as laid-fit-by}
+use Rattle.layout.proofs.AfreshLaws.{laid_fit as laid-fit-by}
 use Rattle.home.specs.BytesLaws.{part-zeros}
 
 -- ---- layouts

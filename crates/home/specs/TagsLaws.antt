@@ -13,7 +13,7 @@ use Rattle.layout.specs.Perm.{Perm, In, Pairs, single, after}
 use Rattle.layout.specs.PermLaws.{pmap, pin, psym, plength, all_in, in_all, pmembers, all_mapped, pairs_mapped}
 use Rattle.layout.specs.BuildingsLaws.{Tags}
 use Rattle.layout.specs.FindLaws.{by_tag, has_here, has_skip, find_none, lacks_has}
-use Rattle.layout.specs.EditsLaws.{empty_unknown}
+use Rattle.layout.proofs.EditsLaws.{empty_unknown}
 use Rattle.home.specs.Bytes.{step_of, Spot, spots, Entry, entry_of, dictionary, decode, tag_at, entry_cell, entries_at, tags_of}
 use Rattle.home.specs.Sound.{sound, pages_of, list_of}
 use Rattle.home.specs.SoundLaws.{sound-small, sound-valid, sound_loose, sound_words}

@@ -5,13 +5,10 @@ pub mod CallLaws
 pub mod Answers
 pub mod FormatLaws
 pub mod Book
-pub mod BookLaws
 pub mod Logged
 pub mod Holds
-pub mod Steps
 pub mod Claim
 pub mod Kept
 pub mod Last
 pub mod Uncaught
-pub mod UncaughtLaws
 pub mod RulesExamples

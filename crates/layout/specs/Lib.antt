@@ -15,16 +15,9 @@ pub mod MembersLaws
 pub mod BuildingsLaws
 pub mod FindLaws
 pub mod PlaceLaws
-pub mod TakeLaws
 pub mod Literal
 pub mod LiteralLaws
-pub mod RoomLaws
 pub mod Afresh
 pub mod Sizes
-pub mod AfreshLaws
-pub mod ChangeLaws
-pub mod ExactLaws
-pub mod OtherTable
-pub mod EditsLaws
 pub mod ValidLaws
 pub mod BuildingsExamples

@@ -18,9 +18,9 @@ use Rattle.layout.specs.Zones.{Block, Zone, zone, blocks, has_tag, find, take_ou
 use Rattle.home.specs.Layout.{change, Loose}
 use Rattle.layout.specs.FindLaws.{Lacks, has_skip}
 use Rattle.layout.specs.PermLaws.{plength}
-use Rattle.layout.specs.TakeLaws.{Taken, TakenOut, take_out_taken, take_out-valid}
-use Rattle.layout.specs.ChangeLaws.{Changed}
-use Rattle.layout.specs.EditsLaws.{changed as holds-changed, free_any}
+use Rattle.layout.proofs.TakeLaws.{Taken, TakenOut, take_out_taken, take_out-valid}
+use Rattle.layout.proofs.ChangeLaws.{Changed}
+use Rattle.layout.proofs.EditsLaws.{changed as holds-changed, free_any}
 use Rattle.home.specs.HomeLaws.{all_mem}
 use Rattle.home.specs.Bytes.{step_of, encode, decode, block_bytes, cell_at}
 use Rattle.home.specs.Sound.{sound, pages_of, list_of}
@@ -28,7 +28,7 @@ use Rattle.home.specs.SoundLaws.{sound_code, sound-encode, sound-small, sound-so
 use Rattle.moves.specs.LayoutMoves.{home-list-set}
 use Rattle.moves.specs.Stored.{settled}
 use Rattle.layout.specs.Afresh.{just_before}
-use Rattle.layout.specs.AfreshLaws.{change_settles}
+use Rattle.layout.proofs.AfreshLaws.{change_settles}
 use Rattle.layout.specs.Valid.{Proper}
 use Rattle.home.specs.EncodeLaws.{step_loose, decode_loose, pages_loose, valid_loose}
 use Rattle.zones.specs.Known.{Known}

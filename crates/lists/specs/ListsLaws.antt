@@ -23,7 +23,7 @@ use Rattle.home.specs.Layout.{Sits}
 use Rattle.home.specs.Bytes.{block_bytes, cell_at, list_at}
 use Rattle.home.specs.AreaLaws.{length_block}
 use Rattle.home.specs.BytesLaws.{part_join}
-use Rattle.layout.specs.EditsLaws.{length-insert, length-amend}
+use Rattle.layout.proofs.EditsLaws.{length-insert, length-amend}
 use Rattle.home.specs.HomeLaws.{block_starts, block_records}
 use Rattle.lists.specs.Lists.{holding, grown, shrunk, relisted, inserted_here, removed_here, set_here}
 

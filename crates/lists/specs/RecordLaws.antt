@@ -9,7 +9,7 @@ use Rattle.layout.specs.Capacities.{cells, capacity, class_of}
 use Rattle.layout.specs.CapacitiesLaws.{cells_is, class_holds, rising as rises}
 use Rattle.layout.specs.Zones.{Block, take_out}
 use Rattle.home.specs.Layout.{change}
-use Rattle.layout.specs.EditsLaws.{length-insert, length-amend, remove-listed, amend-listed, insert-listed, shorter}
+use Rattle.layout.proofs.EditsLaws.{length-insert, length-amend, remove-listed, amend-listed, insert-listed, shorter}
 use Rattle.wire.specs.Bytes.{over, is_some}
 use Rattle.home.specs.Bytes.{step_of, encode, decode, block_bytes, cell_at, list_at}
 use Rattle.home.specs.Sound.{pages_of, list_of}

@@ -9,7 +9,7 @@ use Rattle.records.specs.Edits.{decode-encode}
 use Rattle.layout.specs.Capacities.{cells, class_of}
 use Rattle.layout.specs.CapacitiesLaws.{rising as rises}
 use Rattle.layout.specs.Valid.{Proper}
-use Rattle.layout.specs.EditsLaws.{valid-listed}
+use Rattle.layout.proofs.EditsLaws.{valid-listed}
 use Rattle.home.specs.declared.Answer.TheVariants.{Count, Refused}
 use Rattle.home.specs.Bytes.{step_of, decode as zonesIn}
 use Rattle.home.specs.HomeLaws.{all_mem}

@@ -15,7 +15,7 @@ use Rattle.home.specs.Layout.{Valid, Loose}
 use Rattle.layout.specs.Cases.{or_else, holds_some}
 use Rattle.layout.specs.FindLaws.{lacks_has}
 use Rattle.layout.specs.PlaceLaws.{Placed}
-use Rattle.layout.specs.AfreshLaws.{afresh-length, afresh-blocks, laid_holds, fit_total}
+use Rattle.layout.proofs.AfreshLaws.{afresh-length, afresh-blocks, laid_holds, fit_total}
 use Rattle.home.specs.Bytes.{step_of, encode, decode, first_at, many_at}
 use Rattle.home.specs.Sound.{pages_of}
 use Rattle.home.specs.EncodeLaws.{decode_loose, pages_loose, valid_loose}

@@ -10,7 +10,7 @@ use Rattle.layout.specs.Perm.{Pairs}
 use Rattle.layout.specs.Valid.{Other}
 use Rattle.home.specs.Layout.{Fit, Loose}
 use Rattle.home.specs.AreaLaws.{laid_fit}
-use Rattle.layout.specs.AfreshLaws.{afresh-length, afresh-blocks, joined-total, fit_seated, afresh-laid}
+use Rattle.layout.proofs.AfreshLaws.{afresh-length, afresh-blocks, joined-total, fit_seated, afresh-laid}
 use Rattle.moves.specs.LayoutMoves.{first_of, many_of}
 use Rattle.moves.specs.LooseLaws.{fit_lower, fit_above, fit_joined, blocks-append}
 use Rattle.moves.specs.Stored.{end_after}

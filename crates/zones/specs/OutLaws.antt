@@ -15,7 +15,7 @@ use Rattle.layout.specs.Zones.{Block, Zone, empty, zone, blocks, has_tag, last_o
 use Rattle.layout.specs.Perm.{Perm, pskip, ptrans, Pairs}
 use Rattle.layout.specs.PermLaws.{psym, pleft, pright, pfront, plength, pall, pairs_tail}
 use Rattle.layout.specs.FindLaws.{pdistinct}
-use Rattle.layout.specs.TakeLaws.{turned_perm}
+use Rattle.layout.proofs.TakeLaws.{turned_perm}
 use Rattle.layout.specs.Valid.{Other}
 use Rattle.home.specs.Layout.{Sits, Fit, Loose}
 use Rattle.home.specs.Sound.{pages_of}

@@ -12,8 +12,8 @@ use Rattle.layout.specs.Rising.{Rising}
 use Rattle.layout.specs.Classes.{cells_by, class_from, usable}
 use Rattle.layout.specs.ClassesLaws.{usable-rising}
 use Rattle.layout.specs.LiteralLaws.{literal-place}
-use Rattle.layout.specs.ChangeLaws.{Changed, Open, change-changed, shorter_some}
-use Rattle.layout.specs.ExactLaws.{change_exactly}
+use Rattle.layout.proofs.ChangeLaws.{Changed, Open, change-changed, shorter_some}
+use Rattle.layout.proofs.ExactLaws.{change_exactly}
 
 abbrev capacities : List ℕ
 capacities = 2 ∷ 3 ∷ 5 ∷ 989 ∷ []

@@ -22,9 +22,9 @@ use Rattle.layout.specs.Edits.{record_rules, put, delete, set_minutes, drop_tag}
 use Rattle.layout.specs.Cases.{by_pick, some_is, Holds}
 use Rattle.layout.specs.FindLaws.{by_tag, has_here, has_skip, find_here, find_skip}
 use Rattle.layout.specs.Sizes.{block_size, total_after}
-use Rattle.layout.specs.AfreshLaws.{laid-total}
-use Rattle.layout.specs.ChangeLaws.{Changed, Open, change-changed, shorter_some}
-use Rattle.layout.specs.ExactLaws.{had, change_exactly}
+use Rattle.layout.proofs.AfreshLaws.{laid-total}
+use Rattle.layout.proofs.ChangeLaws.{Changed, Open, change-changed, shorter_some}
+use Rattle.layout.proofs.ExactLaws.{had, change_exactly}
 use Rattle.layout.specs.Valid.{Sits, Laid, Valid, Proper}
 
 -- ---- lists

@@ -23,9 +23,10 @@ use Rattle.image_log.specs.Calls.{Plan, refuse, store, answer, after, changed_pa
 use Rattle.image_log.specs.Answers.{recover_clear, recover_committed_lem, recover_spoiled, commit_marked, not_store}
 use Rattle.image_log.specs.CallLaws.{log_last, log_mark_same, recover_marked, recover_last, recover_zero}
 use Rattle.image_log.specs.Book.{Call, commit, recover, allowance, value, plan_of, rest, caught, seen, Book, logs, told_mark, recovering, committing, differing, refused, writes, kept_rules, book_rules, judge, recover_need, report, answer_to, book_at, foretold, next, left_by, told}
-use Rattle.image_log.specs.BookLaws.{need_clear, need_marked, no_commit, some_commit, recovering_done, recovering_last, recovering-cut, by_committing, not_writes, kept_passed}
+use Rattle.image_log.proofs.BookLaws.{need_clear, need_marked, no_commit, some_commit, recovering_done, recovering_last, recovering-cut, by_committing, not_writes, kept_passed}
 use Rattle.image_log.specs.Logged.{answer-report, caught_is, caught-report, Logged, long_log, log_long, recover_length, recover_head, recover_logged, recover_home, long_changes, commit_torn, commit_stands, commit_unmarked, commit_head, commit_home, commit_log, commit_logged}
-use Rattle.image_log.specs.Holds.{State, settled, owing, spoiled, Holds, Ready, moved, told-fits, tell}
+use Rattle.image_log.specs.Holds.{State, settled, owing, spoiled, Holds, Ready}
+use Rattle.image_log.proofs.Holds.{moved, told-fits, tell}
 
 -- a call's own answer and image are those of the book, and what holds goes on
 pub record Step (accept : List ℕ → Bool) (l₀ l : List ℕ) (b : Book) (c : Call) : Type 0 where

@@ -18,9 +18,9 @@ use Rattle.layout.specs.Cases.{by_pick, Holds, holds_to}
 use Rattle.layout.specs.PermLaws.{prefl, psym, pleft, pright, pfront, plength, pall, pairs_head, pairs_tail}
 use Rattle.layout.specs.FindLaws.{Lacks, pdistinct, find_here, find_skip, has_append, find_later, find_none, lacks_has, pfind}
 use Rattle.layout.specs.PlaceLaws.{Placed}
-use Rattle.layout.specs.AfreshLaws.{settle_holds, settle_placed}
-use Rattle.layout.specs.TakeLaws.{TakenOut, take_out_taken, take_out-valid}
-use Rattle.layout.specs.RoomLaws.{find_class, shrink_room}
+use Rattle.layout.proofs.AfreshLaws.{settle_holds, settle_placed}
+use Rattle.layout.proofs.TakeLaws.{TakenOut, take_out_taken, take_out-valid}
+use Rattle.layout.proofs.RoomLaws.{find_class, shrink_room}
 
 -- ---- a list changed where it lies
 

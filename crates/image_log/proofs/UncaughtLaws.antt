@@ -23,10 +23,11 @@ use Rattle.image_log.specs.CallLaws.{log_right, log_mark_same, log_standing, rec
 use Rattle.image_log.specs.Book.{Call, commit, recover, allowance, value, plan_of, rest, caught, Seen, seen, told, trace, final, Book, start, logs, told_mark, recovering, committing, Verdict, refused, writes, book_rules, judge, need_by, recover_need, report, answer_to, book_at, foretold, next, book_after}
 use Rattle.image_log.specs.Answers.{recover_committed_lem}
 use Rattle.image_log.specs.Logged.{remark_mark, long_log, log_long, long_changes}
-use Rattle.image_log.specs.BookLaws.{need_clear, need_marked, some_commit, recovering_done, recovering_last, recovering-cut, committing_early, committing-mark, committing_late, writes_clear}
+use Rattle.image_log.proofs.BookLaws.{need_clear, need_marked, some_commit, recovering_done, recovering_last, recovering-cut, committing_early, committing-mark, committing_late, writes_clear}
 use Rattle.image_log.specs.Holds.{State, settled, owing, spoiled, Holds}
-use Rattle.image_log.specs.Steps.{step, recover_goes, Writing, writing}
-use Rattle.image_log.specs.Claim.{Starts, Claim, begins, claim}
+use Rattle.image_log.proofs.Steps.{step, recover_goes, Writing, writing}
+use Rattle.image_log.specs.Claim.{Starts, Claim}
+use Rattle.image_log.proofs.Claim.{begins, claim}
 use Rattle.image_log.specs.Uncaught.{Plain, plain_start, plain_rules, plain_judge, plain_need, mark_stored, plain_at, plain_foretold, plain_next, plain_after, plain_left, plain_told, plain_ledger, Uncaught, end, and, stood, telling, still, PlainClaim}
 
 -- H and p are the same, and the mark is 0 if p is 0, otherwise 165

@@ -17,7 +17,7 @@ use Rattle.layout.specs.Cases.{by_pick}
 use Rattle.layout.specs.PermLaws.{plength}
 use Rattle.layout.specs.FindLaws.{by_tag, find_here, find_skip, has_skip, has_append, find_later}
 use Rattle.layout.specs.PlaceLaws.{length_snoc}
-use Rattle.layout.specs.TakeLaws.{LowTo, lowered-low, low-length, low_end, Out, removed_out}
+use Rattle.layout.proofs.TakeLaws.{LowTo, lowered-low, low-length, low_end, Out, removed_out}
 
 some-map : (f : List Zone → List Zone) (o : Option (List Zone)) → IsSome o → IsSome (map f o)
 some-map f none h = h

@@ -18,7 +18,7 @@ use Rattle.layout.specs.Valid.{Sits, Laid, Fit, Valid}
 use Rattle.layout.specs.Cases.{by_pick, or_else, Holds, holds_some, holds_both, holds_to, holds_else, holds_at, else_first, else_some, some_is, none_is}
 use Rattle.layout.specs.FindLaws.{Lacks, pdistinct}
 use Rattle.layout.specs.PlaceLaws.{length_snoc, Made, Placed, place-made, place-length}
-use Rattle.layout.specs.RoomLaws.{shrink_room}
+use Rattle.layout.proofs.RoomLaws.{shrink_room}
 use Rattle.layout.specs.Afresh.{by_class, behind, Gapless, just_before}
 use Rattle.layout.specs.Sizes.{block_size, sizes}
 

@@ -19,10 +19,10 @@ use Rattle.layout.specs.Valid.{Sits, Valid, Proper}
 use Rattle.layout.specs.Cases.{by_pick, Holds, holds_to}
 use Rattle.layout.specs.FindLaws.{pfind, find_here, find_none, lacks_has}
 use Rattle.layout.specs.PlaceLaws.{Placed}
-use Rattle.layout.specs.TakeLaws.{TakenOut, Taken, take_out-valid, take_out_taken}
-use Rattle.layout.specs.ChangeLaws.{Open, sits}
+use Rattle.layout.proofs.TakeLaws.{TakenOut, Taken, take_out-valid, take_out_taken}
+use Rattle.layout.proofs.ChangeLaws.{Open, sits}
 use Rattle.layout.specs.Sizes.{block_size, total_after}
-use Rattle.layout.specs.AfreshLaws.{Seated, laid-seated, laid-total, total-sizes, size-some, settle_holds, settle_exactly}
+use Rattle.layout.proofs.AfreshLaws.{Seated, laid-seated, laid-total, total-sizes, size-some, settle_holds, settle_exactly}
 
 -- every block holds a record
 blocks-some : (cells class_of : ℕ → ℕ) (c : ℕ) (zs : List Zone) → Seated cells class_of c zs → All (λ (b : Block). 0 < length b.list) (blocks zs)
