@@ -2,7 +2,7 @@
 use Rattle.std.specs.Prelude.{◌≡◌, refl, Bool, true, ℕ, List, set, eqb}
 use Rattle.std.proofs.Common.{◌∙◌, arith, eq-eqb, ne_eqb}
 use Rattle.wire.specs.Cases.{by_test, by_eq}
-use Rattle.redo.specs.Image.{mark, head_ok}
+use Rattle.redo.specs.Image.{head_ok}
 use Rattle.redo.specs.ImageLaws.{same_trans, head_same, head_right}
 use Rattle.image_log.specs.Book.{Book, told_mark}
 use Rattle.image_log.specs.Logged.{remark_head, remark_mark, remark_home, remark_logged}

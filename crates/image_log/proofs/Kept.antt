@@ -1,5 +1,6 @@
 -- The claim in the user's words: which index is found after a switch-off, and that a completed commit is kept.
 use Rattle.std.proofs.Math.Dec.{leb}
+use Rattle.std.proofs.Math.Bool.{true}
 use Rattle.std.specs.Prelude.{◌≡◌, Bool, not, ◌⊎◌, eqb}
 use Rattle.std.proofs.Math.Path.{refl, ap}
 use Rattle.std.proofs.Common.{sym, ◌∙◌, arith}

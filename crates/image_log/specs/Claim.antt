@@ -5,8 +5,8 @@ use Prim.Native.Nat.{ℕ}
 use mathlib.Core.List.{List}
 use Rattle.redo.specs.Image.{capacity, record_pages, mark, home, head_ok}
 use Rattle.image_log.specs.declared.Outcome.TheVariants.{Done}
-use Rattle.image_log.specs.Calls.{store, answer, after, recover_plan}
-use Rattle.image_log.specs.Book.{Call, report, recover_need, trace, Book, start, next, told, ledger}
+use Rattle.image_log.specs.Calls.{answer, after, recover_plan}
+use Rattle.image_log.specs.Book.{Call, report, recover_need, trace, Book, start, ledger}
 
 -- "The list starts on a sound image with mark 0": a right head, mark 0 and accepted home
 pub record Starts (accept : List ℕ → Bool) (l : List ℕ) : Type 0 where

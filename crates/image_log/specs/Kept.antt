@@ -1,13 +1,11 @@
 -- The claim in the user's words: which index is found after a switch-off, and that a completed commit is kept.
-use Rattle.std.specs.Prelude.{◌≡◌, Bool, true, ◌⊎◌, leb}
-use Prim.Native.Nat.{ℕ, ◌+◌, ◌-◌, ◌*◌, ◌≤◌, ◌<◌}
+use Rattle.std.specs.Prelude.{◌≡◌, Bool, ◌⊎◌}
+use Prim.Native.Nat.{ℕ, ◌+◌, ◌*◌, ◌≤◌, ◌<◌}
 use mathlib.Core.List.{List}
-use Rattle.std.proofs.Math.ListN.{length}
-use Rattle.wire.specs.All.{more}
-use Rattle.redo.specs.Image.{capacity, mark, pages, home}
+use Rattle.redo.specs.Image.{capacity, mark, home}
 use Rattle.image_log.specs.declared.Outcome.TheVariants.{Done}
-use Rattle.image_log.specs.Calls.{store, answer, after, recover_plan, commit_plan}
-use Rattle.image_log.specs.Book.{Call, commit, recover, allowance, value, Book, start, differing, refused, writes, judge, commit_need, next, book_after}
+use Rattle.image_log.specs.Calls.{answer, after, recover_plan, commit_plan}
+use Rattle.image_log.specs.Book.{Call, recover, Book, start, book_after}
 
 -- the book after a list of calls that starts on l
 abbrev pub book_of : (List ℕ → Bool) → List ℕ → List Call → Book

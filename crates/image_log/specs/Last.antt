@@ -1,10 +1,9 @@
 -- Which workspace was last logged, and which is kept: that of the last call at which the mark of a commit was stored.
-use Rattle.std.specs.Prelude.{◌≡◌, Bool, ◌&&◌, ◌||◌, not, ◌⊎◌, ℕ, ◌+◌, ◌-◌, ◌*◌, leb}
+use Rattle.std.specs.Prelude.{◌≡◌, Bool, ◌&&◌, ◌||◌, not, ◌⊎◌, ℕ, ◌+◌, ◌*◌, leb}
 use Rattle.std.proofs.Math.Bool.{true, false}
 use mathlib.Core.List.{List, ◌∷◌, ◌++◌, []}
 use Rattle.std.proofs.Math.Dec.{eqb}
-use Rattle.wire.specs.Cases.{never}
-use Rattle.image_log.specs.Book.{Call, commit, recover, Book, start, Verdict, refused, writes, judge, recover_need, next, book_after}
+use Rattle.image_log.specs.Book.{Call, commit, recover, Book, Verdict, refused, writes, judge, recover_need, next, book_after}
 
 -- no call of the list passes it
 pub data Never (accept : List ℕ → Bool) (L : ℕ) (test : Book → Call → Bool) : Book → List Call → Type 0 where
