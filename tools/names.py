@@ -62,6 +62,8 @@ def main():
                 definitions.add(m["name"])
             else:
                 lemmas.add(m["name"])
+    for p in spec + proof + src:
+        definitions |= set(re.findall(r" as ([a-z]+[a-z0-9]*[A-Z]\w*)", texts[p]))
     known = {snake(d) for d in definitions} - {"is", "all"} | STD
     lemmas -= definitions
 

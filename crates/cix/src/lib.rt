@@ -5,7 +5,7 @@ ghost use Rattle.std.specs.Prelude.{◌≡◌, ◌+◌, ◌*◌, ◌<◌};
 ghost use Rattle.wire.specs.Rules.{answered, left};
 ghost use Rattle.image_log.specs.Calls.{answer, after, recover_plan, commit_plan};
 ghost use Rattle.records.specs.Records.{key};
-ghost use Rattle.home.specs.Sound.{sound as isSound};
+ghost use Rattle.home.specs.Sound.{sound as is_sound};
 ghost use Rattle.reads.specs.Reads.{count_in, rank_in};
 ghost use Rattle.reads.specs.Merges.{merge_in};
 ghost use Rattle.index.specs.Calls.{begin_call, put_call, delete_call, set_call, drop_call, format_plan};
@@ -196,8 +196,8 @@ pub extern "C" fn cix_drop_tag(space: &mut [u8], tag: u32) -> u64
 // Makes a workspace the image's home, with an allowance of stores.
 #[unsafe(no_mangle)]
 pub extern "C" fn cix_commit(image: &mut [u8], space: &[u8], stores: u32) -> u64
-    ensures value { result ≡ of_outcome (answer (commit_plan isSound image.old space.now) stores) }
-    ensures image_after { image.new ≡ after (commit_plan isSound image.old space.now) stores image.old }
+    ensures value { result ≡ of_outcome (answer (commit_plan is_sound image.old space.now) stores) }
+    ensures image_after { image.new ≡ after (commit_plan is_sound image.old space.now) stores image.old }
 {
     let o = index::commit(image, space, stores as usize);
     of_outcome(o)

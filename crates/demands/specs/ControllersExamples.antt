@@ -13,7 +13,7 @@ use Rattle.layout.specs.Buildings.{building_full}
 use Rattle.layout.specs.Perm.{Perm, pskip, ptrans, single, after}
 use Rattle.layout.specs.PermLaws.{protate}
 use Rattle.layout.specs.Valid.{valid}
-use Rattle.layout.specs.Edits.{put as putBy, delete as deleteBy, set_minutes as setBy, drop_tag as dropBy}
+use Rattle.layout.specs.Edits.{put as put_by, delete as delete_by, set_minutes as set_by, drop_tag as drop_by}
 use Rattle.home.specs.Bytes.{spots, encode, decode, zones_from}
 use Rattle.home.specs.Sound.{sound, sized, list_of}
 use Rattle.home.specs.declared.Answer.{Answer}
@@ -111,5 +111,5 @@ cases : (ends some one ≡ (Count 2 ∷ Count 3 ∷ Count 2 ∷ Count 0 ∷ [], 
     × (ends (drop_tag 7 ∷ new ∷ []) one ≡ (Count 0 ∷ Count 1 ∷ [], call 4 9 ∷ [], call 8 0 ∷ []))
     × (ends (minutes 1 ∷ minutes 2 ∷ []) one ≡ (Count 1 ∷ Count 1 ∷ [], call 3 2 ∷ [], call 8 0 ∷ []))
     × (ends (minutes 2 ∷ minutes 1 ∷ []) one ≡ (Count 1 ∷ Count 1 ∷ [], call 3 1 ∷ [], call 8 0 ∷ []))
-unfolding ends some again high low gone cleared new minutes one other seven nine answers call events through edit_call put_call delete_call set_call drop_call limit_of full_of gate_rules first sized sound list_of valid decode zones_from encode spots settled putBy deleteBy setBy dropBy building_full total_after change settle place take_out rewritten has_tag find blocks class_of capacity cells key look insert remove amend rising_from bytes_of record_at records part over get16 get32 bytes16 bytes32 equal blank
+unfolding ends some again high low gone cleared new minutes one other seven nine answers call events through edit_call put_call delete_call set_call drop_call limit_of full_of gate_rules first sized sound list_of valid decode zones_from encode spots settled put_by delete_by set_by drop_by building_full total_after change settle place take_out rewritten has_tag find blocks class_of capacity cells key look insert remove amend rising_from bytes_of record_at records part over get16 get32 bytes16 bytes32 equal blank
 cases = (refl, refl, refl, refl, refl, refl)

@@ -17,7 +17,7 @@ use Rattle.home.specs.Layout.{change}
 use Rattle.layout.specs.Cases.{Holds}
 use Rattle.wire.specs.Bytes.{is_some}
 use Rattle.layout.proofs.ChangeLaws.{Changed}
-use Rattle.layout.specs.Edits.{Edit as EditBy, put as putBy, delete as deleteBy, set_minutes as setBy, drop_tag as dropBy}
+use Rattle.layout.specs.Edits.{Edit as EditBy, put as put_by, delete as delete_by, set_minutes as set_by, drop_tag as drop_by}
 use Rattle.layout.specs.CapacitiesLaws.{rising as rises}
 use Rattle.layout.proofs.EditsLaws.{Fine, changed, put_fine, delete_fine, set_fine, drop_fine}
 use Rattle.home.specs.Bytes.{step_of, decode}
@@ -84,20 +84,20 @@ module _ (w : List ℕ) (t : ℕ) (small : t < 4294967296) where
       rs = gate_rules Space w ++ e.rules
 
   pub put_effect : (by : Terminal) (r : Record) → Fits r → Effect w (left (put_call by w t r) w) t (insert r (list_of w t)) (answered Refused (put_call by w t r))
-  unfolding put_call putBy list_of
+  unfolding put_call put_by list_of
   put_effect by r f = effect (put_of by w t r) (λ s q. put_fine (cells (step_of w)) (class_of (step_of w)) (rises (step_of w)) (8 * pages_of w) t (decode w) (sound-valid w s) small (limit_of by) (full_of by) (limit_low by) r f q)
 
   pub delete_effect : (k : ℕ) → Effect w (left (delete_call w t k) w) t (remove k (list_of w t)) (answered Refused (delete_call w t k))
-  unfolding delete_call deleteBy list_of
-  delete_effect k = effect (deleteBy t k (decode w)) (λ s q. delete_fine (cells (step_of w)) (class_of (step_of w)) (rises (step_of w)) (8 * pages_of w) t (decode w) (sound-valid w s) small k q)
+  unfolding delete_call delete_by list_of
+  delete_effect k = effect (delete_by t k (decode w)) (λ s q. delete_fine (cells (step_of w)) (class_of (step_of w)) (rises (step_of w)) (8 * pages_of w) t (decode w) (sound-valid w s) small k q)
 
   pub set_effect : (k m : ℕ) → m < 256 → Effect w (left (set_call w t k m) w) t (amend k m (list_of w t)) (answered Refused (set_call w t k m))
-  unfolding set_call setBy list_of
-  set_effect k m g = effect (setBy t k m (decode w)) (λ s q. set_fine (cells (step_of w)) (class_of (step_of w)) (rises (step_of w)) (8 * pages_of w) t (decode w) (sound-valid w s) small k m g q)
+  unfolding set_call set_by list_of
+  set_effect k m g = effect (set_by t k m (decode w)) (λ s q. set_fine (cells (step_of w)) (class_of (step_of w)) (rises (step_of w)) (8 * pages_of w) t (decode w) (sound-valid w s) small k m g q)
 
   pub drop_effect : Effect w (left (drop_call w t) w) t [] (answered Refused (drop_call w t))
-  unfolding drop_call dropBy
-  drop_effect = effect (dropBy t (decode w)) (λ s q. drop_fine (cells (step_of w)) (class_of (step_of w)) (rises (step_of w)) (8 * pages_of w) t (decode w) (sound-valid w s) small q)
+  unfolding drop_call drop_by
+  drop_effect = effect (drop_by t (decode w)) (λ s q. drop_fine (cells (step_of w)) (class_of (step_of w)) (rises (step_of w)) (8 * pages_of w) t (decode w) (sound-valid w s) small q)
 
 -- any of them
 pub edit_effect : (e : Edit) → Ranged e → (w : List ℕ) → Effect w (made e w) (tag_of e) (list_by e (list_of w (tag_of e))) (answer_of e w)

@@ -10,7 +10,7 @@ use Rattle.wire.specs.Cases.{by_test, never}
 use Rattle.wire.specs.Rules.{Rule, first, refusal, answered, left}
 use Rattle.wire.specs.RulesLaws.{by_refusal, first-behind, first_passed, passes_both}
 use Rattle.records.specs.declared.Record.{Record}
-use Rattle.records.specs.Records.{Fits, key, before, below, rising_from, encode as recordBytes}
+use Rattle.records.specs.Records.{Fits, key, before, below, rising_from, encode as record_bytes}
 use Rattle.records.specs.Order.{before-key, rising_parts, rising-at}
 use Rattle.merges.specs.declared.Merge.{Merge}
 use Rattle.merges.specs.Merging.{merge}
@@ -63,7 +63,7 @@ list-sorted h t s i j z f g k =
 -- ---- reads
 
 -- a read gives exactly that list
-pub reads_list : (of : Of) (bs : List ℕ) (t : ℕ) → refusal (gate_rules of bs) ≡ none → (count_in of bs t ≡ Count (length (list_in of bs t))) × (show_in of bs t ≡ recordBytes (list_in of bs t))
+pub reads_list : (of : Of) (bs : List ℕ) (t : ℕ) → refusal (gate_rules of bs) ≡ none → (count_in of bs t ≡ Count (length (list_in of bs t))) × (show_in of bs t ≡ record_bytes (list_in of bs t))
 reads_list of bs t p = (count_open of bs t p, show_open of bs t p)
 
 sound-sized : (w : List ℕ) → sound w ≡ true → sized w ≡ true
@@ -101,7 +101,7 @@ module _ (of : Of) (a : List ℕ) (of' : Of) (b : List ℕ) (p : refusal (gate_r
   lists_read e = record {
     count = λ t. both_open Refused _ _ (ap (λ (rs : List Record). Count (length rs)) (e t));
     rank = λ t k. both_open Refused _ _ (ap (λ (rs : List Record). Count (below k rs)) (e t));
-    show = λ t. both_open (λ n. []) _ _ (ap recordBytes (e t));
+    show = λ t. both_open (λ n. []) _ _ (ap record_bytes (e t));
     merge = λ m t u out.
         let c : merge m (list_in of a t) (list_in of a u) ≡ merge m (list_in of' b t) (list_in of' b u) = ap₂ (merge m) (e t) (e u) in
         (both_behind Refused _ _ _ _ (ap (λ (rs : List Record). answered Refused (written rs out)) c), both_behind (λ n. out) _ _ _ _ (ap (λ (rs : List Record). left (written rs out) out) c));
@@ -183,8 +183,8 @@ module _ (l : List ℕ) (L R step n : ℕ) (code : step ≤ 1) (fits : in_range 
 
   -- it reads empty for every tag
   pub formatted_reads : (t : ℕ) → (count_in Image made t ≡ Count 0) × (show_in Image made t ≡ [])
-  unfolding home_in recordBytes
+  unfolding home_in record_bytes
   formatted_reads t =
       let r = reads_list Image made t (image_opens made formatted-starts.head formatted-starts.unmarked formatted-starts.fine) in
       let e : list_of (home made) t ≡ [] = formatted_empty t in
-      (r.0 ∙ ap (λ (y : List Record). Count (length y)) e, r.1 ∙ ap recordBytes e)
+      (r.0 ∙ ap (λ (y : List Record). Count (length y)) e, r.1 ∙ ap record_bytes e)

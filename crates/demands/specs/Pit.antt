@@ -17,7 +17,7 @@ use Rattle.wire.specs.RulesLaws.{first-behind, refused_among, unrefused}
 use Rattle.records.specs.declared.Record.{Record}
 use Rattle.records.specs.Records.{key, look, held}
 use Rattle.image_log.specs.Claim.{Starts}
-use Rattle.layout.specs.Edits.{put as putBy}
+use Rattle.layout.specs.Edits.{put as put_by}
 use Rattle.layout.proofs.EditsLaws.{length-insert, length-remove, length-amend}
 use Rattle.home.specs.declared.Answer.TheVariants.{Count, Refused}
 use Rattle.home.specs.Sound.{sound, list_of}
@@ -55,7 +55,7 @@ module _ (w : List ℕ) (t : ℕ) (r : Record) where
 
   -- "only to lists of fewer than 64 records": to these it is the desk's, in answer and bytes
   pub pit_open : length (list_of w t) < 64 → (answer_of (put Pit t r) w ≡ answer_of (put Desk t r) w) × (made (put Pit t r) w ≡ made (put Desk t r) w)
-  unfolding edit_call put_call putBy list_of limit_of full_of
+  unfolding edit_call put_call put_by list_of limit_of full_of
   pit_open g =
       let c : leb 64 (length (list_of w t)) ≡ false = lt-leb 64 (length (list_of w t)) g in
       let d : leb 989 (length (list_of w t)) ≡ false = lt-leb 989 (length (list_of w t)) (omega arith) in
@@ -63,7 +63,7 @@ module _ (w : List ℕ) (t : ℕ) (r : Record) where
 
   -- so it is never refused with 10
   pub pit_never_ten : answer_of (put Pit t r) w ≢ Refused 10
-  unfolding edit_call put_call putBy gate_rules full_of numbers refused_with rules_of of_answer
+  unfolding edit_call put_call put_by gate_rules full_of numbers refused_with rules_of of_answer
   pit_never_ten e =
       let q : refusal (edit_call (put Pit t r) w).rules ≡ some 10 = sym (refused_exactly (edit (put Pit t r) w)) ∙ ap of_answer e in
       eqb-false 10 10 (refused_among {P = λ (m : ℕ). eqb m 10 ≡ false} (edit_call (put Pit t r) w).rules 10 (more refl (more refl (more refl (more refl (more refl (more refl (more refl nothing))))))) q) refl

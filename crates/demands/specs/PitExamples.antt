@@ -9,7 +9,7 @@ use Rattle.layout.specs.Zones.{Zone, empty, from, find, blocks, has_tag, rewritt
 use Rattle.layout.specs.Sizes.{total_after}
 use Rattle.layout.specs.Buildings.{building_full}
 use Rattle.layout.specs.Valid.{valid}
-use Rattle.layout.specs.Edits.{put as putBy, delete as deleteBy}
+use Rattle.layout.specs.Edits.{put as put_by, delete as delete_by}
 use Rattle.home.specs.Bytes.{spots, encode, decode, zones_from}
 use Rattle.home.specs.Sound.{sound, sized, list_of}
 use Rattle.home.specs.declared.Answer.TheVariants.{Count, Refused}
@@ -47,5 +47,5 @@ without (d ∷ ds) rs = without ds (list_by (delete 7 (key d)) rs)
 case : (answers (put Pit 7 (call 70) ∷ put Pit 7 (call 69) ∷ put Desk 7 (call 70) ∷ []) (filled 0 70) ≡ Refused 17 ∷ Refused 8 ∷ Count 71 ∷ [])
     × (without (calls_from 0 7) (list_by (put Desk 7 (call 70)) (calls_from 0 70)) ≡ calls_from 7 64)
     × (answers (put Pit 7 (call 71) ∷ delete 7 (key (call 7)) ∷ put Pit 7 (call 71) ∷ put Pit 7 (call 72) ∷ []) (filled 7 64) ≡ Refused 17 ∷ Count 63 ∷ Count 64 ∷ Refused 17 ∷ [])
-unfolding answers filled without list_by call calls_from events edit_call put_call delete_call limit_of full_of gate_rules first sized sound list_of valid decode zones_from encode spots settled putBy deleteBy building_full total_after change settle place take_out rewritten has_tag find blocks class_of capacity cells key look insert remove rising_from bytes_of record_at records part over get16 get32 bytes16 bytes32 equal blank
+unfolding answers filled without list_by call calls_from events edit_call put_call delete_call limit_of full_of gate_rules first sized sound list_of valid decode zones_from encode spots settled put_by delete_by building_full total_after change settle place take_out rewritten has_tag find blocks class_of capacity cells key look insert remove rising_from bytes_of record_at records part over get16 get32 bytes16 bytes32 equal blank
 case = (refl, refl, refl)

@@ -14,7 +14,7 @@ use Rattle.records.specs.declared.Record.{Record}
 use Rattle.records.specs.Records.{key, look, held, insert}
 use Rattle.layout.specs.Zones.{blocks, tags, has_tag}
 use Rattle.layout.specs.Buildings.{building_full}
-use Rattle.layout.specs.Edits.{put as putBy}
+use Rattle.layout.specs.Edits.{put as put_by}
 use Rattle.layout.proofs.EditsLaws.{length-insert}
 use Rattle.home.specs.declared.Answer.TheVariants.{Count, Refused}
 use Rattle.home.specs.Layout.{total_after}
@@ -75,11 +75,11 @@ module _ (by : Terminal) (w : List ℕ) (t : ℕ) (r : Record) where
   -- ---- its refusals
 
   tells : (n : ℕ) → refusal rules ≡ some n → answer_of (put by t r) w ≡ Refused n
-  unfolding edit_call put_call putBy list_of
+  unfolding edit_call put_call put_by list_of
   tells n q = first-refused Refused rules n _ q
 
   told : (n : ℕ) → answer_of (put by t r) w ≡ Refused n → refusal rules ≡ some n
-  unfolding edit_call put_call putBy list_of refused_with rules_of of_answer
+  unfolding edit_call put_call put_by list_of refused_with rules_of of_answer
   told n e = sym (refused_exactly (edit (put by t r) w)) ∙ ap of_answer e
 
   -- a call that is listed, with 8
@@ -193,7 +193,7 @@ module _ (by : Terminal) (w : List ℕ) (t : ℕ) (r : Record) where
 
   -- where no rule applies it answers one record more
   passed_done : refusal rules ≡ none → answer_of (put by t r) w ≡ Count (suc (length (list_of w t)))
-  unfolding edit_call put_call putBy list_of
+  unfolding edit_call put_call put_by list_of
   passed_done q = first_passed Refused rules (Count (length (insert r (list_of w t)))) q ∙ ap Count (length-insert r (list_of w t))
 
   -- where its list is open and it may have its tag, it depends on room alone
@@ -204,7 +204,7 @@ module _ (by : Terminal) (w : List ℕ) (t : ℕ) (r : Record) where
       (λ q. inl (passed_done (free_passes c rest ∙ passed_one 19 no_part (rule 11 no_entry ∷ rule 12 no_room ∷ []) p ∙ passed_one 11 no_entry (rule 12 no_room ∷ []) e ∙ passed_one 12 no_room [] q)))
 
   done_passed : (n : ℕ) → answer_of (put by t r) w ≡ Count n → refusal rules ≡ none
-  unfolding edit_call put_call putBy list_of refused_with rules_of of_answer
+  unfolding edit_call put_call put_by list_of refused_with rules_of of_answer
   done_passed n e = sym (refused_exactly (edit (put by t r) w)) ∙ ap of_answer e
 
   -- it found fewer records than the limit, and answers one more
@@ -228,5 +228,5 @@ pub desk_rules : (w : List ℕ) (t : ℕ) (r : Record) → (edit_call (put Desk 
     ∷ rule 11 (not (has_tag t (blocks (decode w))) && leb 256 (length (blocks (decode w))))
     ∷ rule 12 (ltb (8 * pages_of w) (total_after (step_of w) t (insert r (list_of w t)) (decode w)))
     ∷ [])
-unfolding edit_call put_call putBy list_of limit_of full_of
+unfolding edit_call put_call put_by list_of limit_of full_of
 desk_rules w t r = refl

@@ -11,7 +11,7 @@ use Rattle.merges.specs.declared.Merge.{Merge}
 use Rattle.redo.specs.Store.{Store}
 use Rattle.image_log.specs.Calls.{Plan, refuse, store, answer, after, commit_plan, recover_plan}
 use Rattle.home.specs.declared.Answer.TheVariants.{Refused}
-use Rattle.layout.specs.Edits.{put as putEdit, delete as deleteEdit, set_minutes as setEdit, drop_tag as dropEdit}
+use Rattle.layout.specs.Edits.{put as put_edit, delete as delete_edit, set_minutes as set_edit, drop_tag as drop_edit}
 use Rattle.gates.specs.declared.Of.TheVariants.{Image, Space}
 use Rattle.gates.specs.Gates.{gate_rules}
 use Rattle.reads.specs.Reads.{count_in, rank_in}
@@ -27,24 +27,24 @@ use Rattle.demands.specs.Refusals.{Call, begin, edit, count, rank, merge, commit
 
 module _ (w : List ℕ) (t k m : ℕ) (r : Record) where
   put-numbers : numbers (rules_of (edit (put Desk t r) w)) ≡ 6 ∷ 7 ∷ 8 ∷ 10 ∷ 19 ∷ 11 ∷ 12 ∷ []
-  unfolding rules_of edit_call put_call gate_rules putEdit full_of numbers
+  unfolding rules_of edit_call put_call gate_rules put_edit full_of numbers
   put-numbers = refl
 
   -- "after 8 and before 10", which no pit put meets
   pit_numbers : numbers (rules_of (edit (put Pit t r) w)) ≡ 6 ∷ 7 ∷ 8 ∷ 17 ∷ 19 ∷ 11 ∷ 12 ∷ []
-  unfolding rules_of edit_call put_call gate_rules putEdit full_of numbers
+  unfolding rules_of edit_call put_call gate_rules put_edit full_of numbers
   pit_numbers = refl
 
   delete-numbers : numbers (rules_of (edit (delete t k) w)) ≡ 6 ∷ 7 ∷ 9 ∷ []
-  unfolding rules_of edit_call delete_call gate_rules deleteEdit numbers
+  unfolding rules_of edit_call delete_call gate_rules delete_edit numbers
   delete-numbers = refl
 
   set-numbers : numbers (rules_of (edit (set_minutes t k m) w)) ≡ 6 ∷ 7 ∷ 9 ∷ []
-  unfolding rules_of edit_call set_call gate_rules setEdit numbers
+  unfolding rules_of edit_call set_call gate_rules set_edit numbers
   set-numbers = refl
 
   drop-numbers : numbers (rules_of (edit (drop_tag t) w)) ≡ 6 ∷ 7 ∷ 9 ∷ []
-  unfolding rules_of edit_call drop_call gate_rules dropEdit numbers
+  unfolding rules_of edit_call drop_call gate_rules drop_edit numbers
   drop-numbers = refl
 
 module _ (l w : List ℕ) (t u n : ℕ) (m : Merge) (out : List ℕ) where

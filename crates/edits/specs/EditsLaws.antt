@@ -16,18 +16,18 @@ use Rattle.wire.specs.BytesLaws.{over_whole}
 use Rattle.wire.specs.Cases.{never, leb_iff, not-leb}
 use Rattle.wire.specs.All.{more, none as nothing}
 use Rattle.records.specs.declared.Record.{Record}
-use Rattle.records.specs.Records.{Fits, key, rising_from, rising, look, held, insert, amend, up, inserted, bytes_of, encode as recordBytes, decode as recordsIn}
+use Rattle.records.specs.Records.{Fits, key, rising_from, rising, look, held, insert, amend, up, inserted, bytes_of, encode as record_bytes, decode as records_in}
 use Rattle.records.specs.Moves.{length_up}
 use Rattle.records.specs.Cells.{length-bytes_of}
 use Rattle.records.specs.Edits.{length-encode, decode-encode}
 use Rattle.home.specs.declared.lookup.TagBlock.TheVariants.{Unknown}
 use Rattle.layout.specs.Capacities.{cells, class_of}
-use Rattle.layout.specs.Zones.{Zone, blocks, tags, has_tag, find, total, change as changeBy}
+use Rattle.layout.specs.Zones.{Zone, blocks, tags, has_tag, find, total, change as change_by}
 use Rattle.layout.specs.Buildings.{building_full}
 use Rattle.home.specs.Layout.{change, total_after, put}
-use Rattle.layout.specs.Sizes.{block_size, total_after as totalAfterBy}
+use Rattle.layout.specs.Sizes.{block_size, total_after as total_after_by}
 use Rattle.layout.proofs.AfreshLaws.{size-some}
-use Rattle.layout.specs.Edits.{Edit, record_rules, put as putBy, delete, set_minutes, drop_tag}
+use Rattle.layout.specs.Edits.{Edit, record_rules, put as put_by, delete, set_minutes, drop_tag}
 use Rattle.layout.specs.CapacitiesLaws.{rising as rises}
 use Rattle.layout.proofs.EditsLaws.{length-amend, exactly, had_size, total-low}
 use Rattle.home.specs.HomeLaws.{all_mem}
@@ -100,7 +100,7 @@ module _ (h : List ℕ) (t k : ℕ) (none-listed : held (look k (list_of h t)) �
 
 module _ (h : List ℕ) (t p n : ℕ) (l : Listed h t p n) where
   pub put-held : (by : Terminal) (r : Record) → held (look (key r) (list_of h t)) ≡ true → Ends h (put_in by h t r) (Refused 8) h
-  unfolding putBy list_of first
+  unfolding put_by list_of first
   put-held by r e = refuses h t (put_of by h t r) 8 (rw e)
 
   pub drop_done : Ends h (drop_in h t) (Count 0) (changed h t [])
@@ -124,7 +124,7 @@ set_done h t p n j m k g =
 last : (step area limit full t : ℕ) (r : Record) (zs : List Zone) → held (look (key r) (find t (blocks zs))) ≡ false → length (find t (blocks zs)) < limit
     → not (has_tag t (blocks zs)) && building_full t (tags (blocks zs)) ≡ false → not (has_tag t (blocks zs)) && leb 256 (length (blocks zs)) ≡ false → (b : Bool) → leb (total_after step t (insert r (find t (blocks zs))) zs) area ≡ b
     → refusal (put step area limit full t r zs).rules ≡ pick {A = Option ℕ} b none (some 12)
-unfolding putBy first
+unfolding put_by first
 last step area limit full t r zs h g k f b e =
     let rs : List Record = find t (blocks zs) in
     rw (h, lt-leb limit (length rs) g, k, f, sym (not-leb (total_after step t (insert r rs) zs) area) ∙ ap not e) (flip b)
@@ -141,7 +141,7 @@ module _ (h : List ℕ) (t p n j : ℕ) (r : Record) (k : Missing h t p n j r) w
   new = insert r (list_of h t)
 
   pub put_full : (by : Terminal) → limit_of by ≤ n → Ends h (put_in by h t r) (Refused (full_of by)) h
-  unfolding putBy list_of first
+  unfolding put_by list_of first
   put_full by e =
       let g : leb (limit_of by) (length (find t (blocks (decode h)))) ≡ true = le-leb (limit_of by) (length (find t (blocks (decode h)))) (omega (arith, listed-many h t p n k.listed)) in
       refuses h t (put_of by h t r) (full_of by) (rw (k.held, g))
@@ -164,7 +164,7 @@ module _ (h : List ℕ) (t p n j : ℕ) (r : Record) (k : Missing h t p n j r) w
 
   -- whether there is room is known by the sizes of all blocks
   fits-total : fits_after step h (class_of step n) (class_of step (n + 1)) ≡ leb (total_after step t new (decode h)) (8 * pages_of h)
-  unfolding list_of totalAfterBy
+  unfolding list_of total_after_by
   fits-total =
       let m : length new ≡ n + 1 = new-many h t p n j r k in
       let b : block_size (cells step) (class_of step) new ≡ cells step (class_of step (n + 1)) = size-some (cells step) (class_of step) new (omega (arith, m)) ∙ ap (λ (d : ℕ). cells step (class_of step d)) m in
@@ -189,7 +189,7 @@ module _ (h : List ℕ) (t p n j : ℕ) (r : Record) (k : Missing h t p n j r) w
         last step (8 * pages_of h) (limit_of by) (full_of by) t r (decode h) k.held (omega arith) (rw (listed_has h t p n k.listed) refl) (rw (listed_has h t p n k.listed) refl) b (sym fits-total ∙ q)
 
     pub put_done : fits_after step h (class_of step n) (class_of step (n + 1)) ≡ true → Ends h (put_in by h t r) (Count (n + 1)) (changed h t new)
-    unfolding putBy list_of
+    unfolding put_by list_of
     put_done i = makes h t (put_of by h t r) (n + 1) new (put_last true i) refl (sym (new-many h t p n j r k))
 
     pub put_no_room : fits_after step h (class_of step n) (class_of step (n + 1)) ≡ false → Ends h (put_in by h t r) (Refused 12) h
@@ -203,8 +203,8 @@ settled-none step R h none i = refl
 settled-none step R h (some zs) i = never (sym i)
 
 -- its list of one
-pub inserted_alone : (l : List ℕ) (r : Record) → length l ≡ 8 → inserted l 0 r ≡ recordBytes (r ∷ [])
-unfolding inserted recordBytes
+pub inserted_alone : (l : List ℕ) (r : Record) → length l ≡ 8 → inserted l 0 r ≡ record_bytes (r ∷ [])
+unfolding inserted record_bytes
 inserted_alone l r e = over_whole (up l (8 * 0)) (bytes_of r) (length-bytes_of r ∙ sym (length_up l (8 * 0) ∙ e)) ∙ sym (append-nil (bytes_of r))
 
 pub absent_new : (h : List ℕ) (t : ℕ) → sound h ≡ true → block_of h t ≡ Unknown → has_tag t (blocks (decode h)) ≡ false
@@ -235,29 +235,29 @@ module _ (h : List ℕ) (t : ℕ) (s : sound h ≡ true) (no : has_tag t (blocks
   nothing-closed by = lt-leb (limit_of by) 0 (limit_some by)
 
   pub new_either : (by : Terminal) (r : Record) → (answered Refused (put_in Desk h t r) ≡ answered Refused (put_in by h t r)) × (left (put_in Desk h t r) h ≡ left (put_in by h t r) h)
-  unfolding putBy first
+  unfolding put_by first
   new_either by r = rw (nothing-held (key r), nothing-listed, nothing-closed by, nothing-closed Desk) (refl, refl)
 
   -- "beyond this"
   pub put-building : (r : Record) → building_full t (tags (blocks (decode h))) ≡ true → Ends h (put_in Desk h t r) (Refused 19) h
-  unfolding putBy first
+  unfolding put_by first
   put-building r e = refuses h t (put_of Desk h t r) 19 (rw (nothing-held (key r), nothing-listed, nothing-closed Desk, no, e))
 
   pub put-tags : (r : Record) → building_full t (tags (blocks (decode h))) ≡ false → get16 h 0 ≡ 256 → Ends h (put_in Desk h t r) (Refused 11) h
-  unfolding putBy first
+  unfolding put_by first
   put-tags r free e =
       let g : leb 256 (length (blocks (decode h))) ≡ true = le-leb 256 (length (blocks (decode h))) (omega (arith, sound-tags h s)) in
       refuses h t (put_of Desk h t r) 11 (rw (nothing-held (key r), nothing-listed, nothing-closed Desk, no, free, g))
 
-  module _ (small : t < 4294967296) (free : building_full t (tags (blocks (decode h))) ≡ false) (few : get16 h 0 ≢ 256) (r : Record) (fits : Fits r) (bs : List ℕ) (e : bs ≡ recordBytes (r ∷ [])) where
+  module _ (small : t < 4294967296) (free : building_full t (tags (blocks (decode h))) ≡ false) (few : get16 h 0 ≢ 256) (r : Record) (fits : Fits r) (bs : List ℕ) (e : bs ≡ record_bytes (r ∷ [])) where
     fewer : length (blocks (decode h)) < 256
     fewer = omega (arith, sound-tags h s, (sound-valid h s).few)
 
     one : length bs / 8 ≡ 1
     one = omega (arith, ap length e, length-encode (r ∷ []))
 
-    read : recordsIn bs ≡ r ∷ []
-    read = ap recordsIn e ∙ decode-encode (r ∷ []) (all_mem (r ∷ []) (more fits nothing))
+    read : records_in bs ≡ r ∷ []
+    read = ap records_in e ∙ decode-encode (r ∷ []) (all_mem (r ∷ []) (more fits nothing))
 
     pub new_placeable : Placeable h t bs
     new_placeable = record {
@@ -275,7 +275,7 @@ module _ (h : List ℕ) (t : ℕ) (s : sound h ≡ true) (no : has_tag t (blocks
     list_is = rw nothing_found
 
     settles : change (step_of h) (8 * pages_of h) t (r ∷ []) (decode h) ≡ settled_in h t bs
-    unfolding changeBy
+    unfolding change_by
     settles = rw (no, read, one)
 
     one-listed : Proper (r ∷ [])
@@ -288,7 +288,7 @@ module _ (h : List ℕ) (t : ℕ) (s : sound h ≡ true) (no : has_tag t (blocks
         (ap (λ (l : List Record). leb (total_after (step_of h) t l (decode h)) (8 * pages_of h)) list_is ∙ sym x ∙ ap is_some settles ∙ q)
 
     pub new_done : (x : List ℕ) → is_some (settled_in h t bs) ≡ true → x ≡ settled (step_of h) (pages_of h) h (settled_in h t bs) → Ends h (put_in Desk h t r) (Count 1) x
-    unfolding putBy
+    unfolding put_by
     new_done x i y =
         let d = makes h t (put_of Desk h t r) 1 (r ∷ []) (new_last true i) list_is refl in
         (d.0, y ∙ ap (settled (step_of h) (pages_of h) h) (sym settles) ∙ d.1)

@@ -4,7 +4,7 @@ use Rattle.std.proofs.Math.Option.{Option, none, some}
 use Rattle.wire.specs.Bytes.{equal}
 use Rattle.records.specs.declared.Record.{Record}
 use Rattle.layout.specs.Capacities.{cells, class_of}
-use Rattle.layout.specs.Zones.{Zone, empty, blocks, has_tag, find, rewritten, place, take_out, settle, change as changeBy}
+use Rattle.layout.specs.Zones.{Zone, empty, blocks, has_tag, find, rewritten, place, take_out, settle, change as change_by}
 use Rattle.home.specs.Layout.{change}
 use Rattle.home.specs.Bytes.{Entry, dictionary}
 
@@ -53,7 +53,7 @@ gaps =
     []
 
 gaps_hold : follow 0 16 (replicate 30 empty) gaps ≡ true
-unfolding follow changeBy settle place take_out rewritten has_tag find blocks cells class_of gaps
+unfolding follow change_by settle place take_out rewritten has_tag find blocks cells class_of gaps
 gaps_hold = refl
 
 -- R = 3: "the order they had just before the placing" is that after the take-out. 3 has filled the place of 1, so that it lies before 2.
@@ -67,7 +67,7 @@ order =
     []
 
 order_holds : follow 0 24 (replicate 30 empty) order ≡ true
-unfolding follow changeBy settle place take_out rewritten has_tag find blocks cells class_of order
+unfolding follow change_by settle place take_out rewritten has_tag find blocks cells class_of order
 order_holds = refl
 
 -- R = 3: placing 3 at cell 0 would lift 1 off, for which there is no room behind 2. It does not stay lifted: 1 lies before 2 as it did.
@@ -80,5 +80,5 @@ lifted =
     []
 
 lifted_holds : follow 0 24 (replicate 30 empty) lifted ≡ true
-unfolding follow changeBy settle place take_out rewritten has_tag find blocks cells class_of lifted
+unfolding follow change_by settle place take_out rewritten has_tag find blocks cells class_of lifted
 lifted_holds = refl

@@ -1,7 +1,7 @@
 -- The bytes of home: a layout to bytes, and back.
 use Rattle.std.specs.Prelude.{List, [], ◌∷◌, ◌++◌, map, ℕ, zero, suc, ◌+◌, ◌*◌, ◌-◌, ltb, eqb, length, get_or, replicate}
 use Rattle.wire.specs.Bytes.{pick, over, get16, get32, bytes16, bytes32}
-use Rattle.records.specs.Records.{records, encode as recordBytes}
+use Rattle.records.specs.Records.{records, encode as record_bytes}
 use Rattle.layout.specs.Capacities.{capacity, cells}
 use Rattle.layout.specs.Zones.{Block, Zone, empty, from, zone, blocks}
 
@@ -9,9 +9,9 @@ use Rattle.layout.specs.Zones.{Block, Zone, empty, from, zone, blocks}
 
 -- "A block is one cell of header, tag (4), record count (2), two zero bytes, then its records, then zero cells": a block of class c
 unfoldable pub block_bytes : ℕ → ℕ → Block → List ℕ
-unfolding bytes16 bytes32 recordBytes
+unfolding bytes16 bytes32 record_bytes
 block_bytes step c b =
-    bytes32 b.tag ++ (bytes16 (length b.list) ++ (0 ∷ 0 ∷ (recordBytes b.list ++ replicate (8 * (capacity step c - length b.list)) 0)))
+    bytes32 b.tag ++ (bytes16 (length b.list) ++ (0 ∷ 0 ∷ (record_bytes b.list ++ replicate (8 * (capacity step c - length b.list)) 0)))
 
 -- a block with its first cell and its class
 pub record Spot : Type 0 where

@@ -15,7 +15,7 @@ use Rattle.home.specs.Sound.{sound}
 use Rattle.home.specs.declared.Answer.{Answer}
 use Rattle.home.specs.declared.Answer.TheVariants.{Count, Refused}
 use Rattle.home.specs.Layout.{put}
-use Rattle.layout.specs.Edits.{Edit, put as putBy, delete, set_minutes, drop_tag}
+use Rattle.layout.specs.Edits.{Edit, put as put_by, delete, set_minutes, drop_tag}
 
 -- an edit: its tag, and the record with minutes or the key's three numbers
 data Asked : Type 0 where
@@ -43,7 +43,7 @@ tag_of (setting t l s p m) = t
 tag_of (dropping t) = t
 
 made : (step : ℕ) → ℕ → Asked → List Zone → Edit
-unfolding of putBy delete set_minutes drop_tag key
+unfolding of put_by delete set_minutes drop_tag key
 made step n (putting t l s p m) zs = put step n 989 10 t (of l s p m) zs
 made step n (deleting t l s p) zs = delete t (key (of l s p 0)) zs
 made step n (setting t l s p m) zs = set_minutes t (key (of l s p 0)) m zs

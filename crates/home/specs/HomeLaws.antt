@@ -9,7 +9,7 @@ use Rattle.std.proofs.lemmas.List.{length-replicate, length-map}
 use Rattle.wire.specs.Bytes.{part, get16, get32, bytes16, bytes32}
 use Rattle.wire.specs.All.{All, more}
 use Rattle.records.specs.declared.Record.{Record}
-use Rattle.records.specs.Records.{Fits, records, encode as recordBytes}
+use Rattle.records.specs.Records.{Fits, records, encode as record_bytes}
 use Rattle.records.specs.Cells.{records_same}
 use Rattle.records.specs.Edits.{length-encode, decode-encode as records-back}
 use Rattle.layout.specs.Capacities.{cells, capacity}
@@ -52,9 +52,9 @@ all_mem [] f r m = elim m [ ]
 all_mem (x ∷ xs) (more f h) r (Memᴰ.head q) = rw q f
 all_mem (x ∷ xs) (more f h) r (Memᴰ.tail m) = all_mem xs h r m
 
-list_back : (h : List ℕ) (at : ℕ) (rs : List Record) (rest : List ℕ) → drop at h ≡ recordBytes rs ++ rest → All Fits rs → records h at (length rs) ≡ rs
+list_back : (h : List ℕ) (at : ℕ) (rs : List Record) (rest : List ℕ) → drop at h ≡ record_bytes rs ++ rest → All Fits rs → records h at (length rs) ≡ rs
 list_back h at rs rest e f =
-    let l : List ℕ = recordBytes rs in
+    let l : List ℕ = record_bytes rs in
     let n : length l / 8 ≡ length rs = omega (arith, length-encode rs) in
     records_same l h 0 at (length rs)
     (λ i g. sym (get_or-drop at h i 0) ∙ ap (λ (x : List ℕ). get_or x i 0) e ∙ get_or-append l rest 0 i (omega (arith, length-encode rs)) ∙ ap (λ (k : ℕ). get_or l k 0) (omega arith))
@@ -74,7 +74,7 @@ module _ (step : ℕ) (h : List ℕ) (p c : ℕ) (b : Block) (rest : List ℕ) (
   block_records =
       let pad : List ℕ = replicate (8 * (capacity step c - length b.list)) 0 in
       list_back h (cell_at p + 8) b.list (pad ++ rest)
-      (sym (drop-drop 8 (cell_at p) h) ∙ ap (drop 8) e ∙ append_assoc (recordBytes b.list) pad rest) s.fits
+      (sym (drop-drop 8 (cell_at p) h) ∙ ap (drop 8) e ∙ append_assoc (record_bytes b.list) pad rest) s.fits
 
   pub block_back : block_at h p ≡ b
   unfolding block_at

@@ -3,11 +3,11 @@ use Rattle.std.specs.Prelude.{◌≡◌, Bool, List, ℕ, ◌*◌, ◌≤◌, le
 use Rattle.std.proofs.Math.Option.{Option}
 use Rattle.records.specs.declared.Record.{Record}
 use Rattle.layout.specs.Capacities.{cells, class_of}
-use Rattle.layout.specs.Zones.{Block, Zone, blocks, change as changeBy}
+use Rattle.layout.specs.Zones.{Block, Zone, blocks, change as change_by}
 use Rattle.layout.specs.Perm.{Pairs}
-use Rattle.layout.specs.Sizes.{total_after as totalAfterBy}
-use Rattle.layout.specs.Edits.{Edit, put as putBy}
-use Rattle.layout.specs.Valid.{Other, Sits as SitsBy, Laid as LaidBy, Fit as FitBy, Valid as ValidBy, valid as validBy}
+use Rattle.layout.specs.Sizes.{total_after as total_after_by}
+use Rattle.layout.specs.Edits.{Edit, put as put_by}
+use Rattle.layout.specs.Valid.{Other, Sits as SitsBy, Laid as LaidBy, Fit as FitBy, Valid as ValidBy, valid as valid_by}
 
 abbrev pub Sits : ℕ → ℕ → Block → Type 0
 Sits step c b = SitsBy (cells step) (class_of step) c b
@@ -29,13 +29,13 @@ pub record Loose (step R : ℕ) (zs : List Zone) : Type 0 where
   pub few : length (blocks zs) ≤ 256
 
 abbrev pub valid : ℕ → ℕ → List Zone → Bool
-valid step area zs = validBy (cells step) (class_of step) area zs
+valid step area zs = valid_by (cells step) (class_of step) area zs
 
 abbrev pub change : ℕ → ℕ → ℕ → List Record → List Zone → Option (List Zone)
-change step area t rs zs = changeBy (cells step) (class_of step) area t rs zs
+change step area t rs zs = change_by (cells step) (class_of step) area t rs zs
 
 abbrev pub total_after : ℕ → ℕ → List Record → List Zone → ℕ
-total_after step t rs zs = totalAfterBy (cells step) (class_of step) t rs zs
+total_after step t rs zs = total_after_by (cells step) (class_of step) t rs zs
 
 abbrev pub put : ℕ → ℕ → ℕ → ℕ → ℕ → Record → List Zone → Edit
-put step area limit full t r zs = putBy (cells step) (class_of step) area limit full t r zs
+put step area limit full t r zs = put_by (cells step) (class_of step) area limit full t r zs

@@ -4,7 +4,7 @@ ghost use Rattle.wire.specs.Bytes.{get16};
 ghost use Rattle.layout.specs.Zones.{blocks, tags};
 ghost use Rattle.layout.specs.Buildings.{building, owned, building_full};
 ghost use Rattle.home.specs.Bytes.{decode, tag_at, first_tags};
-ghost use Rattle.home.specs.Sound.{sound as isSound};
+ghost use Rattle.home.specs.Sound.{sound as is_sound};
 ghost use Rattle.home.specs.Lookup.{Ordered};
 
 use records::one_if;
@@ -31,7 +31,7 @@ fn beyond_eighth(home: &[u8], i: usize) -> bool
 // Whether a tag's building may not add it: it has 8 or more, and 128 tags, all that 16 times 8 leave of 256, are beyond the eighth of theirs.
 // That takes 136 tags; fewer are not looked at.
 pub fn building_full(home: &[u8], tag: u32) -> bool
-    requires { isSound home.now ≡ true }
+    requires { is_sound home.now ≡ true }
     ensures { result ≡ building_full tag (tags (blocks (decode home.now))) }
 {
     let n = wire::get16(home, 0);

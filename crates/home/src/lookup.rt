@@ -1,9 +1,9 @@
 // Reading home: zones, the dictionary, and a tag's list.
 ghost use Rattle.std.specs.Prelude.{◌≡◌, true, ◌+◌, ◌≤◌, ◌<◌, length};
 ghost use Rattle.wire.specs.Bytes.{get16};
-ghost use Rattle.records.specs.Records.{encode as recordBytes};
+ghost use Rattle.records.specs.Records.{encode as record_bytes};
 ghost use Rattle.home.specs.Bytes.{step_of, first_at, many_at, end_at};
-ghost use Rattle.home.specs.Sound.{sound as isSound, list_of};
+ghost use Rattle.home.specs.Sound.{sound as is_sound, list_of};
 ghost use Rattle.home.specs.Lookup.{Ordered, index_of, slot_of, slot_block, block_of, offset_of};
 
 use crate::AREA;
@@ -95,7 +95,7 @@ pub fn find(home: &[u8], tag: u32) -> Slot
 
 // The first cell and the record count of the block to which the i-th entry leads.
 fn block_at(home: &[u8], i: usize) -> TagBlock
-    requires { (isSound home.now ≡ true) × (i < get16 home.now 0) }
+    requires { (is_sound home.now ≡ true) × (i < get16 home.now 0) }
     ensures { result ≡ slot_block home.now (Slot.At i) }
 {
     let p = wire::get16(home, 128 + 6 * i + 4);
@@ -105,7 +105,7 @@ fn block_at(home: &[u8], i: usize) -> TagBlock
 
 // Finds a tag's block.
 pub fn block_of(home: &[u8], tag: u32) -> TagBlock
-    requires { isSound home.now ≡ true }
+    requires { is_sound home.now ≡ true }
     ensures { result ≡ block_of home.now tag }
 {
     match find(home, tag) {
@@ -116,7 +116,7 @@ pub fn block_of(home: &[u8], tag: u32) -> TagBlock
 
 // The number of a tag's records, 0 for an unknown tag.
 pub fn count(home: &[u8], tag: u32) -> usize
-    requires { isSound home.now ≡ true }
+    requires { is_sound home.now ≡ true }
     ensures { result ≡ length (list_of home.now tag) }
 {
     match block_of(home, tag) {
@@ -127,8 +127,8 @@ pub fn count(home: &[u8], tag: u32) -> usize
 
 // The part of home that holds a tag's records, empty for an unknown tag.
 pub fn list(home: &[u8], tag: u32) -> &[u8]
-    requires { isSound home.now ≡ true }
-    ensures result_value { result.now ≡ recordBytes (list_of home.now tag) }
+    requires { is_sound home.now ≡ true }
+    ensures result_value { result.now ≡ record_bytes (list_of home.now tag) }
     ensures ref_ptr_value { (result.ref_ptr.0 ≡ home.entry.ref_ptr.0) × (result.ref_ptr.1 ≡ home.entry.ref_ptr.1 + offset_of home.now tag) }
 {
     match block_of(home, tag) {

@@ -8,7 +8,7 @@ ghost use Rattle.redo.specs.Image.{mark, home_at, head_ok, home as home_of, in_r
 ghost use Rattle.redo.specs.Entry.{changes, Loggable};
 ghost use Rattle.redo.specs.Stores.{format_stores, clear_mark, commit_stores};
 ghost use Rattle.image_log.specs.Head.{head_of};
-ghost use Rattle.image_log.specs.Calls.{answer, after, store, formattable as formattableAs, format_plan, recover_plan, commit_plan, any_bytes};
+ghost use Rattle.image_log.specs.Calls.{answer, after, store, formattable as formattable_as, format_plan, recover_plan, commit_plan, any_bytes};
 
 use redo::meter::Meter;
 use redo::{entry, meter, sizes, stages};
@@ -104,7 +104,7 @@ fn write_format(
 
 // Whether the sizes are in range, the image's length is theirs, and offset p lies in home.
 fn formattable(image: &[u8], capacity: usize, pages: usize, p: usize) -> bool
-    ensures { result ≡ formattableAs image.now capacity pages p }
+    ensures { result ≡ formattable_as image.now capacity pages p }
 {
     if !sizes::in_range(capacity, pages) {
         return false;

@@ -6,7 +6,7 @@ ghost use Rattle.std.proofs.Math.Option.{none};
 ghost use Rattle.wire.specs.Rules.{refusal, answered, left};
 ghost use Rattle.redo.specs.Image.{home as home_of};
 ghost use Rattle.image_log.specs.Calls.{answer, after, recover_plan, commit_plan};
-ghost use Rattle.home.specs.Sound.{sound as isSound};
+ghost use Rattle.home.specs.Sound.{sound as is_sound};
 ghost use Rattle.records.specs.Records.{key};
 ghost use Rattle.gates.specs.Gates.{gate_rules};
 ghost use Rattle.index.specs.Calls.{begin_call, put_call, delete_call, set_call, drop_call, format_plan};
@@ -114,8 +114,8 @@ fn as_long(image: &[u8], space: &[u8]) -> bool
 // With a right head, mark 0 and a sound home: 6, 7, or the log's commit.
 fn commit_open(image: &mut [u8], space: &[u8], n: usize) -> Outcome
     requires { refusal (gate_rules Of.Image image.old) ≡ none }
-    ensures value { result ≡ answer (commit_plan isSound image.old space.now) n }
-    ensures image_after { image.new ≡ after (commit_plan isSound image.old space.now) n image.old }
+    ensures value { result ≡ answer (commit_plan is_sound image.old space.now) n }
+    ensures image_after { image.new ≡ after (commit_plan is_sound image.old space.now) n image.old }
 {
     if !as_long(image, space) {
         return Outcome::Refused(6);
@@ -129,8 +129,8 @@ fn commit_open(image: &mut [u8], space: &[u8], n: usize) -> Outcome
 
 // Makes a workspace the image's home, through the log, with an allowance of stores.
 pub fn commit(image: &mut [u8], space: &[u8], n: usize) -> Outcome
-    ensures value { result ≡ answer (commit_plan isSound image.old space.now) n }
-    ensures image_after { image.new ≡ after (commit_plan isSound image.old space.now) n image.old }
+    ensures value { result ≡ answer (commit_plan is_sound image.old space.now) n }
+    ensures image_after { image.new ≡ after (commit_plan is_sound image.old space.now) n image.old }
 {
     match gates::gate(Of::Image, image) {
         Access::Open => commit_open(image, space, n),

@@ -1,6 +1,6 @@
 // The classes of blocks by step code: the records that each has room for, its size, and the class of a number of records.
 ghost use Rattle.std.specs.Prelude.{◌≡◌, ◌≤◌, ◌<◌};
-ghost use Rattle.layout.specs.Capacities.{capacity as capacityOf, under as underOf, cells as cells_of, class_of, short, place_of};
+ghost use Rattle.layout.specs.Capacities.{capacity as capacity_of, under as under_of, cells as cells_of, class_of, short, place_of};
 
 // The bytes of the longest list, 989 records.
 pub const LONGEST_LIST: usize = 7912;
@@ -31,7 +31,7 @@ fn place_of(step: usize, c: usize) -> usize
 // The records that a block of class c has room for. With step code 1 classes above 13 have no lists.
 pub fn capacity(step: usize, c: usize) -> usize
     requires { c < 30 }
-    ensures { (result ≡ capacityOf step c) × (result < 990) }
+    ensures { (result ≡ capacity_of step c) × (result < 990) }
 {
     let place = place_of(step, c);
     match place {
@@ -85,7 +85,7 @@ pub fn capacity(step: usize, c: usize) -> usize
 // What the class below c has room for, 0 for the lowest class: a list of class c has more records.
 pub fn under(step: usize, c: usize) -> usize
     requires { c < 30 }
-    ensures { result ≡ underOf step c }
+    ensures { result ≡ under_of step c }
 {
     if c == 0 {
         return 0;

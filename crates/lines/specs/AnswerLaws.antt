@@ -7,7 +7,7 @@ use Rattle.std.proofs.lemmas.Bool.{lt-leb}
 use Rattle.wire.specs.Bytes.{over}
 use Rattle.wire.specs.Rules.{refusal}
 use Rattle.wire.specs.RulesLaws.{first-map, unrefused}
-use Rattle.records.specs.Records.{decode as recordsIn}
+use Rattle.records.specs.Records.{decode as records_in}
 use Rattle.records.specs.Edits.{length-encode}
 use Rattle.home.specs.declared.Answer.{Answer}
 use Rattle.home.specs.declared.Answer.TheVariants.{Count, Refused}
@@ -39,7 +39,7 @@ module _ (l : List ℕ) (t : ℕ) where
 -- an image whose list was counted is open, and shows it
 pub record Shows (l bs : List ℕ) (t : ℕ) : Type 0 where
   pub short : length bs / 8 ≤ 989
-  pub text : list_lines t (recordsIn bs) ≡ list_text l t
+  pub text : list_lines t (records_in bs) ≡ list_text l t
 
 pub counted_shows : (l bs : List ℕ) (t n : ℕ) → count_in Image l t ≡ Count n → bs ≡ show_in Image l t → Shows l bs t
 unfolding count_in

@@ -9,12 +9,12 @@ use Rattle.wire.specs.Bytes.{pick, over, is_some}
 use Rattle.wire.specs.All.{more}
 use Rattle.wire.specs.Cases.{never}
 use Rattle.records.specs.declared.Record.{Record}
-use Rattle.records.specs.Records.{encode as recordBytes, decode as recordsIn}
+use Rattle.records.specs.Records.{encode as record_bytes, decode as records_in}
 use Rattle.records.specs.Edits.{length-encode, decode-encode}
 use Rattle.layout.specs.Cases.{Holds}
 use Rattle.layout.specs.Capacities.{cells, class_of}
 use Rattle.layout.specs.CapacitiesLaws.{cells_pos, rising as rises}
-use Rattle.layout.specs.Zones.{Block, Zone, zone, blocks, has_tag, find, take_out, rewritten, settle, change as changeBy}
+use Rattle.layout.specs.Zones.{Block, Zone, zone, blocks, has_tag, find, take_out, rewritten, settle, change as change_by}
 use Rattle.home.specs.Layout.{change, Loose}
 use Rattle.layout.specs.FindLaws.{Lacks, has_skip}
 use Rattle.layout.specs.PermLaws.{plength}
@@ -45,7 +45,7 @@ rewritten_known : (step R : ℕ) (h : List ℕ) (zs : List Zone) (t c p : ℕ) (
 rewritten_known step R h zs t c p k rs v =
     let b : Block = record { tag = t; list = rs } in
     let e : rewritten t rs zs ≡ k.found.lower ++ zone k.found.first (k.found.before ++ b ∷ k.found.behind) ∷ k.found.higher =
-    ap (rewritten t rs) k.found.is ∙ rewritten_there t k.found.block k.found.tag k.found.behind k.found.first k.found.before k.found.none_before rs k.found.lower k.found.higher k.found.none-lower in
+    ap (rewritten t rs) k.found.is ∙ rewritten_there t k.found.block k.found.tag k.found.behind k.found.first k.found.before k.found.none_before rs k.found.lower k.found.higher k.found.none_lower in
     let q : k.found.first + length k.found.before * cells step (length k.found.lower) ≡ p = ap (λ (d : ℕ). k.found.first + length k.found.before * cells step d) k.class ∙ k.cell in
     sym (ap (encode step R) e
     ∙ home-list-set step R k.pages k.found.lower k.found.first k.found.before k.found.block b k.found.behind k.found.higher k.found.tag (subst (Loose step R) k.found.is k.loose) (subst (Loose step R) e v)
@@ -57,8 +57,8 @@ unfolding has_tag
 has_none t [] h = refl
 has_none t (x ∷ xs) (more n h) = has_skip t x xs n ∙ has_none t xs h
 
-pub list_read : (rs : List Record) → Proper rs → (bs : List ℕ) → bs ≡ recordBytes rs → recordsIn bs ≡ rs
-list_read rs ok bs e = ap recordsIn e ∙ decode-encode rs (all_mem rs ok.fits)
+pub list_read : (rs : List Record) → Proper rs → (bs : List ℕ) → bs ≡ record_bytes rs → records_in bs ≡ rs
+list_read rs ok bs e = ap records_in e ∙ decode-encode rs (all_mem rs ok.fits)
 
 -- where there is a layout, the old bytes do not matter
 settled_any : (step R : ℕ) (h h' : List ℕ) (o : Option (List Zone)) → is_some o ≡ true → settled step R h o ≡ settled step R h' o
@@ -84,7 +84,7 @@ module _ (h : List ℕ) (t p n : ℕ) (l : Listed h t p n) where
   same_class = ap (class_of step) (sym (listed-many h t p n l))
 
   keeps_class : (r : Record) (rs : List Record) → class_of step (length (r ∷ rs)) ≡ class_of step n → change step (8 * R) t (r ∷ rs) zs ≡ some (rewritten t (r ∷ rs) zs)
-  unfolding changeBy
+  unfolding change_by
   keeps_class r rs e = rw (listed_has h t p n l, eq-eqb (class_of step (length (find t (blocks zs)))) (class_of step (length (r ∷ rs))) (same_class ∙ sym e))
 
   pub changed_here : (rs : List Record) → Proper rs → 0 < length rs → class_of step (length rs) ≡ class_of step n → over h (cell_at p) (block_bytes step (class_of step n) (record { tag = t; list = rs })) ≡ changed h t rs
@@ -99,7 +99,7 @@ module _ (h : List ℕ) (t p n : ℕ) (l : Listed h t p n) where
   -- ---- in none
 
   pub changed-none : encode step R (take_out (cells step) t 0 0 zs) ≡ changed h t []
-  unfolding settled changeBy
+  unfolding settled change_by
   changed-none = refl
 
   -- ---- in a block of another class
@@ -133,11 +133,11 @@ module _ (h : List ℕ) (t p n : ℕ) (l : Listed h t p n) where
         let k : Taken (cells step) (class_of step) t (8 * R) 0 0 (blocks zs) left = take_out_taken (cells step) (class_of step) (cells_pos step) t (8 * R) 0 0 zs (sound-valid h l.sound).laid (listed_has h t p n l) in
         omega (arith, plength k.out.same, (sound-valid h l.sound).few)
 
-    module _ (rs : List Record) (ok : Proper rs) (bs : List ℕ) (e : bs ≡ recordBytes rs) where
+    module _ (rs : List Record) (ok : Proper rs) (bs : List ℕ) (e : bs ≡ record_bytes rs) where
       many : length bs / 8 ≡ length rs
       many = omega (arith, ap length e, length-encode rs)
 
-      read : recordsIn bs ≡ rs
+      read : records_in bs ≡ rs
       read = list_read rs ok bs e
 
       moved_placeable : 0 < length rs → Placeable h' t bs
@@ -161,7 +161,7 @@ module _ (h : List ℕ) (t p n : ℕ) (bs : List ℕ) (m : Moving h t p n bs) (h
   pub moving_placeable : Placeable h' t bs
   moving_placeable = moved_placeable h t p n m.listed h' q m.list m.proper bs m.bytes m.some
 
-  pub moving_changed : (x : List ℕ) → x ≡ settled (step_of h') (pages_of h') h' (settled_in h' t bs) → x ≡ changed h t (recordsIn bs)
+  pub moving_changed : (x : List ℕ) → x ≡ settled (step_of h') (pages_of h') h' (settled_in h' t bs) → x ≡ changed h t (records_in bs)
   moving_changed x y =
       moved-changed h t p n m.listed h' q m.list m.proper bs m.bytes x m.some m.class m.room y
       ∙ ap (changed h t) (sym (list_read m.list m.proper bs m.bytes))

@@ -2,7 +2,7 @@
 use Rattle.std.specs.Prelude.{◌≡◌, true, false, ◌≢◌, List, ◌++◌, ℕ, suc, ◌*◌, ◌<◌, length, take, drop}
 use Rattle.wire.specs.Bytes.{is_some}
 use Rattle.records.specs.declared.Record.{Record}
-use Rattle.records.specs.Records.{Fits, key, look, held, rank, encode as recordBytes}
+use Rattle.records.specs.Records.{Fits, key, look, held, rank, encode as record_bytes}
 use Rattle.layout.specs.Capacities.{class_of}
 use Rattle.home.specs.Layout.{change}
 use Rattle.home.specs.Bytes.{step_of, decode}
@@ -46,7 +46,7 @@ pub record Moving (h : List ℕ) (t p n : ℕ) (bs : List ℕ) : Type 0 where
   pub listed : Listed h t p n
   pub list : List Record
   pub proper : Proper list
-  pub bytes : bs ≡ recordBytes list
+  pub bytes : bs ≡ record_bytes list
   pub some : 0 < length list
   pub class : class_of (step_of h) (length list) ≢ class_of (step_of h) n
   pub room : is_some (change (step_of h) (8 * pages_of h) t list (decode h)) ≡ true

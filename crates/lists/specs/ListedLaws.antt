@@ -3,7 +3,7 @@ use Rattle.std.specs.Prelude.{◌≡◌, true, List, ℕ, ◌+◌, ◌-◌, ◌*
 use Rattle.std.proofs.Common.{sym, ap, ◌∙◌, arith}
 use Rattle.std.proofs.Math.Path.{subst}
 use Rattle.records.specs.declared.Record.{Record}
-use Rattle.records.specs.Records.{records, rising, decode as recordsIn}
+use Rattle.records.specs.Records.{records, rising, decode as records_in}
 use Rattle.records.specs.Edits.{decode-part}
 use Rattle.wire.specs.BytesLaws.{part_of}
 use Rattle.layout.specs.Capacities.{class_of}
@@ -21,7 +21,7 @@ use Rattle.lists.specs.Listed.{Listed}
 -- the list of a tag's block is what is found
 known_list : (step R : ℕ) (h : List ℕ) (zs : List Zone) (t c p : ℕ) (k : Known step R h zs t c p) → k.found.block.list ≡ find t (blocks zs)
 known_list step R h zs t c p k = sym (ap (λ (l : List Zone). find t (blocks l)) k.found.is
-    ∙ find_there t k.found.block k.found.tag k.found.behind k.found.first k.found.before k.found.none_before k.found.lower k.found.higher k.found.none-lower)
+    ∙ find_there t k.found.block k.found.tag k.found.behind k.found.first k.found.before k.found.none_before k.found.lower k.found.higher k.found.none_lower)
 
 module _ (h : List ℕ) (t p n : ℕ) (l : Listed h t p n) where
   abbrev list : List Record
@@ -61,8 +61,8 @@ module _ (h : List ℕ) (t p n : ℕ) (l : Listed h t p n) where
   listed-records = ap (records h (list_at p)) listed-many ∙ block_list (step_of h) h p (class_of (step_of h) n) (record { tag = t; list = list }) listed_lying.sits listed_lying.bytes listed_lying.inside
 
 -- the records of a part of home
-pub part-records : (h : List ℕ) (at n : ℕ) → at + 8 * n ≤ length h → recordsIn (take (at + 8 * n - at) (drop at h)) ≡ records h at n
-part-records h at n g = ap recordsIn (part_of h at (8 * n)) ∙ decode-part h at n g
+pub part-records : (h : List ℕ) (at n : ℕ) → at + 8 * n ≤ length h → records_in (take (at + 8 * n - at) (drop at h)) ≡ records h at n
+part-records h at n g = ap records_in (part_of h at (8 * n)) ∙ decode-part h at n g
 
 pub listed-rising : (h : List ℕ) (t p n : ℕ) → Listed h t p n → rising (records h (list_at p) n) ≡ true
 listed-rising h t p n l = rw (listed-records h t p n l) (listed_lying h t p n l).sits.rising

@@ -12,7 +12,7 @@ use Rattle.wire.specs.Bytes.{part, over, bytes16, bytes32}
 use Rattle.wire.specs.BytesLaws.{over_is, over_whole, over-append, length_part, part_of, part-add, part-drop, over-behind, over-ahead, part-behind, over_seam, set-over}
 use Rattle.wire.specs.Cases.{by_lt, never}
 use Rattle.records.specs.declared.Record.{Record}
-use Rattle.records.specs.Records.{key, rising, look, held, rank, insert, remove, amend, lasting, bytes_of, up, down, inserted, removed, amended, records, encode as recordBytes}
+use Rattle.records.specs.Records.{key, rising, look, held, rank, insert, remove, amend, lasting, bytes_of, up, down, inserted, removed, amended, records, encode as record_bytes}
 use Rattle.records.specs.Order.{insert-at, remove-at, amend-at, rank-length, held_end}
 use Rattle.records.specs.Cells.{length-bytes_of}
 use Rattle.records.specs.Edits.{length-encode}
@@ -132,16 +132,16 @@ module _ (h : List ℕ) (p n j : ℕ) where
 
 -- ---- a list's bytes cut at a rank
 
-bytes_append : (xs ys : List Record) → recordBytes (xs ++ ys) ≡ recordBytes xs ++ recordBytes ys
-unfolding recordBytes
+bytes_append : (xs ys : List Record) → record_bytes (xs ++ ys) ≡ record_bytes xs ++ record_bytes ys
+unfolding record_bytes
 bytes_append [] ys = refl
-bytes_append (x ∷ xs) ys = ap (λ (l : List ℕ). bytes_of x ++ l) (bytes_append xs ys) ∙ sym (append_assoc (bytes_of x) (recordBytes xs) (recordBytes ys))
+bytes_append (x ∷ xs) ys = ap (λ (l : List ℕ). bytes_of x ++ l) (bytes_append xs ys) ∙ sym (append_assoc (bytes_of x) (record_bytes xs) (record_bytes ys))
 
-bytes_mid : (xs : List Record) (x : Record) (ys : List Record) → recordBytes (xs ++ (x ∷ ys)) ≡ recordBytes xs ++ (bytes_of x ++ recordBytes ys)
-unfolding recordBytes
+bytes_mid : (xs : List Record) (x : Record) (ys : List Record) → record_bytes (xs ++ (x ∷ ys)) ≡ record_bytes xs ++ (bytes_of x ++ record_bytes ys)
+unfolding record_bytes
 bytes_mid xs x ys = bytes_append xs (x ∷ ys)
 
-length_front : (j : ℕ) (rs : List Record) → j ≤ length rs → length (recordBytes (take j rs)) ≡ 8 * j
+length_front : (j : ℕ) (rs : List Record) → j ≤ length rs → length (record_bytes (take j rs)) ≡ 8 * j
 length_front j rs g = length-encode (take j rs) ∙ ap (λ (k : ℕ). 8 * k) (length-take-le j rs g)
 
 -- a key that is there stands at its rank
@@ -168,16 +168,16 @@ unfolding bytes_of bytes32 bytes16
 set_minutes_lem x m = refl
 
 -- minutes set in a list's bytes
-amended_bytes : (k m : ℕ) (rs : List Record) → rising rs ≡ true → held (look k rs) ≡ true → amended (recordBytes rs) (rank k rs) m ≡ recordBytes (amend k m rs)
+amended_bytes : (k m : ℕ) (rs : List Record) → rising rs ≡ true → held (look k rs) ≡ true → amended (record_bytes rs) (rank k rs) m ≡ record_bytes (amend k m rs)
 amended_bytes k m rs u v =
     let j : ℕ = rank k rs in
     let g : j < length rs = rank-held k rs v in
     let z : Record = record { level = 0; second = 0; phone = 0; minutes = 0 } in
     let x : Record = get_or rs j z in
-    ap (λ (l : List ℕ). amended l j m) (ap recordBytes (split_at rs j z g) ∙ bytes_mid (take j rs) x (drop (suc j) rs))
-    ∙ amended_in (recordBytes (take j rs)) (bytes_of x) (recordBytes (drop (suc j) rs)) j m (length_front j rs (omega arith)) (length-bytes_of x)
-    ∙ ap (λ (l : List ℕ). recordBytes (take j rs) ++ (l ++ recordBytes (drop (suc j) rs))) (set_minutes_lem x m)
-    ∙ sym (ap recordBytes (amend-at 0 k m rs z u v ∙ set_split rs j (lasting x m) g) ∙ bytes_mid (take j rs) (lasting x m) (drop (suc j) rs))
+    ap (λ (l : List ℕ). amended l j m) (ap record_bytes (split_at rs j z g) ∙ bytes_mid (take j rs) x (drop (suc j) rs))
+    ∙ amended_in (record_bytes (take j rs)) (bytes_of x) (record_bytes (drop (suc j) rs)) j m (length_front j rs (omega arith)) (length-bytes_of x)
+    ∙ ap (λ (l : List ℕ). record_bytes (take j rs) ++ (l ++ record_bytes (drop (suc j) rs))) (set_minutes_lem x m)
+    ∙ sym (ap record_bytes (amend-at 0 k m rs z u v ∙ set_split rs j (lasting x m) g) ∙ bytes_mid (take j rs) (lasting x m) (drop (suc j) rs))
 
 -- ---- a block of class c at cell p
 
@@ -186,7 +186,7 @@ unfoldable header : ℕ → ℕ → List ℕ
 header t n = bytes32 t ++ (bytes16 n ++ (0 ∷ 0 ∷ []))
 
 unfoldable body : ℕ → ℕ → List Record → List ℕ
-body step c rs = recordBytes rs ++ replicate (8 * (capacity step c - length rs)) 0
+body step c rs = record_bytes rs ++ replicate (8 * (capacity step c - length rs)) 0
 
 -- the zeros behind n records in room for k, and behind one more
 zeros_more : (k n m : ℕ) → suc n ≡ m → m ≤ k → replicate {A = ℕ} (8 * (k - n)) 0 ≡ replicate 8 0 ++ replicate (8 * (k - m)) 0
@@ -223,44 +223,44 @@ module _ (step : ℕ) (h : List ℕ) (p c : ℕ) (b : Block) (s : Sits step c b)
   rest : List ℕ
   rest = replicate (8 * (capacity step c - length b.list)) 0 ++ back
 
-  list_there : drop (list_at p) h ≡ recordBytes b.list ++ rest
+  list_there : drop (list_at p) h ≡ record_bytes b.list ++ rest
   unfolding rest block_bytes bytes32 bytes16
-  list_there = sym (drop-drop 8 (cell_at p) h) ∙ ap (drop 8) block_there ∙ append_assoc (recordBytes b.list) (replicate (8 * (capacity step c - length b.list)) 0) back
+  list_there = sym (drop-drop 8 (cell_at p) h) ∙ ap (drop 8) block_there ∙ append_assoc (record_bytes b.list) (replicate (8 * (capacity step c - length b.list)) 0) back
 
   pub block_list : records h (list_at p) (length b.list) ≡ b.list
   block_list = block_records step h p c b back block_there s
 
-  pub block_list_bytes : part h (list_at p) (8 * length b.list) ≡ recordBytes b.list
-  block_list_bytes = part-first h (recordBytes b.list) rest (list_at p) (8 * length b.list) list_there (length-encode b.list)
+  pub block_list_bytes : part h (list_at p) (8 * length b.list) ≡ record_bytes b.list
+  block_list_bytes = part-first h (record_bytes b.list) rest (list_at p) (8 * length b.list) list_there (length-encode b.list)
 
   -- its first j records, and those behind
-  cut : (j : ℕ) → drop (list_at p) h ≡ recordBytes (take j b.list) ++ (recordBytes (drop j b.list) ++ rest)
+  cut : (j : ℕ) → drop (list_at p) h ≡ record_bytes (take j b.list) ++ (record_bytes (drop j b.list) ++ rest)
   cut j =
       let xs : List Record = take j b.list in
       let ys : List Record = drop j b.list in
-      list_there ∙ ap (λ (l : List Record). recordBytes l ++ rest) (sym (take-append-drop j b.list)) ∙ ap (λ (l : List ℕ). l ++ rest) (bytes_append xs ys)
-      ∙ append_assoc (recordBytes xs) (recordBytes ys) rest
+      list_there ∙ ap (λ (l : List Record). record_bytes l ++ rest) (sym (take-append-drop j b.list)) ∙ ap (λ (l : List ℕ). l ++ rest) (bytes_append xs ys)
+      ∙ append_assoc (record_bytes xs) (record_bytes ys) rest
 
-  front : (j : ℕ) → j ≤ length b.list → part h (list_at p) (8 * j) ≡ recordBytes (take j b.list)
-  front j g = part-first h (recordBytes (take j b.list)) (recordBytes (drop j b.list) ++ rest) (list_at p) (8 * j) (cut j) (length_front j b.list g)
+  front : (j : ℕ) → j ≤ length b.list → part h (list_at p) (8 * j) ≡ record_bytes (take j b.list)
+  front j g = part-first h (record_bytes (take j b.list)) (record_bytes (drop j b.list) ++ rest) (list_at p) (8 * j) (cut j) (length_front j b.list g)
 
-  behind : (j : ℕ) → j ≤ length b.list → part h (list_at p + 8 * j) (8 * (length b.list - j)) ≡ recordBytes (drop j b.list)
+  behind : (j : ℕ) → j ≤ length b.list → part h (list_at p + 8 * j) (8 * (length b.list - j)) ≡ record_bytes (drop j b.list)
   behind j g =
       let k : ℕ = length b.list - j in
-      part_in h (recordBytes (take j b.list)) (recordBytes (drop j b.list)) rest (list_at p) (8 * j) (8 * k) (cut j) (length_front j b.list g)
+      part_in h (record_bytes (take j b.list)) (record_bytes (drop j b.list)) rest (list_at p) (8 * j) (8 * k) (cut j) (length_front j b.list g)
       (length-encode (drop j b.list) ∙ ap (λ (m : ℕ). 8 * m) (length-drop j b.list))
 
   -- ---- the changed list made aside
 
-  pub insert_aside_is : (r : Record) → grown h p (length b.list) (rank (key r) b.list) r ≡ recordBytes (insert r b.list)
+  pub insert_aside_is : (r : Record) → grown h p (length b.list) (rank (key r) b.list) r ≡ record_bytes (insert r b.list)
   unfolding grown
   insert_aside_is r =
       let j : ℕ = rank (key r) b.list in
       let g : j ≤ length b.list = rank-length (key r) b.list in
       ap₂ (λ (x y : List ℕ). x ++ (bytes_of r ++ y)) (front j g) (behind j g)
-      ∙ sym (ap recordBytes (insert-at r b.list) ∙ bytes_mid (take j b.list) r (drop j b.list))
+      ∙ sym (ap record_bytes (insert-at r b.list) ∙ bytes_mid (take j b.list) r (drop j b.list))
 
-  pub remove_aside_is : (k : ℕ) → held (look k b.list) ≡ true → shrunk h p (length b.list) (rank k b.list) ≡ recordBytes (remove k b.list)
+  pub remove_aside_is : (k : ℕ) → held (look k b.list) ≡ true → shrunk h p (length b.list) (rank k b.list) ≡ record_bytes (remove k b.list)
   unfolding shrunk
   remove_aside_is k v =
       let n : ℕ = length b.list in
@@ -269,7 +269,7 @@ module _ (step : ℕ) (h : List ℕ) (p c : ℕ) (b : Block) (s : Sits step c b)
       let x : list_at p + 8 * j + 8 ≡ list_at p + 8 * suc j = omega arith in
       let y : n - (j + 1) ≡ n - suc j = omega arith in
       ap₂ (λ (x y : List ℕ). x ++ y) (front j (omega arith)) (ap₂ (λ (x y : ℕ). part h x (8 * y)) x y ∙ behind (suc j) g)
-      ∙ sym (ap recordBytes (remove-at 0 k b.list s.rising v) ∙ bytes_append (take j b.list) (drop (suc j) b.list))
+      ∙ sym (ap record_bytes (remove-at 0 k b.list s.rising v) ∙ bytes_append (take j b.list) (drop (suc j) b.list))
 
   -- ---- the list changed in its block
 
@@ -316,14 +316,14 @@ module _ (step : ℕ) (h : List ℕ) (p c : ℕ) (b : Block) (s : Sits step c b)
   unfolding inserted_here body
   insert_here_is r g =
       let xs : List Record = insert r b.list in
-      let bs : List ℕ = recordBytes b.list in
+      let bs : List ℕ = record_bytes b.list in
       let z : List ℕ = replicate (8 * (capacity step c - suc (length b.list))) 0 in
       let m : length b.list + 1 ≡ length xs = omega (arith, length-insert r b.list) in
       ap₂ (λ (k : ℕ) (l : List ℕ). relisted h p k l) m (insert_aside_is r)
-      ∙ relisted_is xs (bs ++ replicate 8 0) z (recordBytes xs)
+      ∙ relisted_is xs (bs ++ replicate 8 0) z (record_bytes xs)
       (ap (λ (l : List ℕ). bs ++ l) (zeros_more (capacity step c) (length b.list) (suc (length b.list)) refl g) ∙ sym (append_assoc bs (replicate 8 0) z))
       (omega (arith, length-append bs (replicate 8 0), length-encode b.list, length-encode xs))
-      (ap (λ (k : ℕ). recordBytes xs ++ replicate (8 * (capacity step c - k)) 0) (sym (length-insert r b.list)))
+      (ap (λ (k : ℕ). record_bytes xs ++ replicate (8 * (capacity step c - k)) 0) (sym (length-insert r b.list)))
       (omega arith)
 
   pub remove_here_is : (k : ℕ) → held (look k b.list) ≡ true
@@ -331,11 +331,11 @@ module _ (step : ℕ) (h : List ℕ) (p c : ℕ) (b : Block) (s : Sits step c b)
   unfolding removed_here body
   remove_here_is k v =
       let xs : List Record = remove k b.list in
-      let bs : List ℕ = recordBytes xs in
+      let bs : List ℕ = record_bytes xs in
       let z : List ℕ = replicate (8 * (capacity step c - length b.list)) 0 in
       let m : suc (length xs) ≡ length b.list = length-remove k b.list s.rising v in
       ap₂ (λ (k : ℕ) (l : List ℕ). relisted h p k (l ++ replicate 8 0)) (omega arith) (remove_aside_is k v)
-      ∙ relisted_is xs (recordBytes b.list) z (bs ++ replicate 8 0) refl
+      ∙ relisted_is xs (record_bytes b.list) z (bs ++ replicate 8 0) refl
       (omega (arith, length-append bs (replicate 8 0), length-encode b.list, length-encode xs))
       (append_assoc bs (replicate 8 0) z ∙ ap (λ (l : List ℕ). bs ++ l) (sym (zeros_more (capacity step c) (length xs) (length b.list) m (omega (arith, s.room, cells_is step c)))))
       (omega (arith, s.room, cells_is step c))
@@ -348,6 +348,6 @@ module _ (step : ℕ) (h : List ℕ) (p c : ℕ) (b : Block) (s : Sits step c b)
       let z : List ℕ = replicate (8 * (capacity step c - length b.list)) 0 in
       let q : length xs ≡ length b.list = length-amend k m b.list in
       ap (λ (l : List ℕ). over h (list_at p) l) (ap (λ (l : List ℕ). amended l (rank k b.list) m) block_list_bytes ∙ amended_bytes k m b.list s.rising v)
-      ∙ list_over (recordBytes b.list) z (recordBytes xs) refl (omega (arith, length-encode b.list, length-encode xs))
-      ∙ ap₂ (λ (n : ℕ) (l : List ℕ). lead ++ (header b.tag n ++ l)) (sym q) (joined xs z (recordBytes xs) (ap (λ (n : ℕ). recordBytes xs ++ replicate (8 * (capacity step c - n)) 0) (sym q)))
+      ∙ list_over (record_bytes b.list) z (record_bytes xs) refl (omega (arith, length-encode b.list, length-encode xs))
+      ∙ ap₂ (λ (n : ℕ) (l : List ℕ). lead ++ (header b.tag n ++ l)) (sym q) (joined xs z (record_bytes xs) (ap (λ (n : ℕ). record_bytes xs ++ replicate (8 * (capacity step c - n)) 0) (sym q)))
       ∙ sym (block_over xs (omega (arith, s.room, cells_is step c)))

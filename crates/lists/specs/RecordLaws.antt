@@ -2,7 +2,7 @@
 use Rattle.std.specs.Prelude.{◌≡◌, refl, true, ◌≢◌, List, [], ◌∷◌, ◌++◌, ℕ, suc, ◌+◌, ◌-◌, ◌*◌, ◌≤◌, ◌<◌, length, take}
 use Rattle.std.proofs.Common.{sym, ap, ap₂, ◌∙◌, subst, arith, take_at}
 use Rattle.records.specs.declared.Record.{Record}
-use Rattle.records.specs.Records.{key, insert, remove, amend, encode as recordBytes, decode as recordsIn}
+use Rattle.records.specs.Records.{key, insert, remove, amend, encode as record_bytes, decode as records_in}
 use Rattle.records.specs.Order.{remove-at, rank-length}
 use Rattle.layout.specs.Cases.{some_is}
 use Rattle.layout.specs.Capacities.{cells, capacity, class_of}
@@ -74,8 +74,8 @@ module _ (h : List ℕ) (t p n j : ℕ) (k : Ranked h t p n j) where
       ∙ changed_here h t p n k.listed (without j rs) left_proper (omega (arith, left-many)) (ap (class_of (step_of h)) f ∙ e)
 
   -- another class
-  pub shrunk_is : shrunk h p n j ≡ recordBytes (without j rs)
-  shrunk_is = ap₂ (shrunk h p) many (sym k.rank) ∙ remove_aside_is (step_of h) h p (class_of (step_of h) n) b lies.sits lies.bytes lies.inside k.key k.held ∙ ap recordBytes without_is
+  pub shrunk_is : shrunk h p n j ≡ record_bytes (without j rs)
+  shrunk_is = ap₂ (shrunk h p) many (sym k.rank) ∙ remove_aside_is (step_of h) h p (class_of (step_of h) n) b lies.sits lies.bytes lies.inside k.key k.held ∙ ap record_bytes without_is
 
   pub out_room : is_some (change (step_of h) (8 * pages_of h) t (without j rs) (decode h)) ≡ true
   unfolding list_of
@@ -94,7 +94,7 @@ module _ (h : List ℕ) (t p n j : ℕ) (k : Ranked h t p n j) where
       room = out_room;
     }
 
-    pub out_moved : (x : List ℕ) → x ≡ changed h t (recordsIn bs) → x ≡ changed h t (without j rs)
+    pub out_moved : (x : List ℕ) → x ≡ changed h t (records_in bs) → x ≡ changed h t (without j rs)
     out_moved x y = y ∙ ap (changed h t) (list_read (without j rs) left_proper bs (e ∙ shrunk_is))
 
 -- ---- put in
@@ -136,7 +136,7 @@ module _ (h : List ℕ) (t p n j : ℕ) (r : Record) (k : Missing h t p n j r) w
         ∙ changed_here h t p n k.listed new new_proper (omega (arith, new-many)) (ap (class_of (step_of h)) new-many ∙ e)
 
     -- another class
-    grown_is : grown h p n j r ≡ recordBytes new
+    grown_is : grown h p n j r ≡ record_bytes new
     grown_is = ap₂ (λ (x y : ℕ). grown h p x y r) count (sym k.rank) ∙ insert_aside_is (step_of h) h p (class_of (step_of h) n) (record { tag = t; list = old }) here.sits here.bytes here.inside r
 
     module _ (bs : List ℕ) (e : bs ≡ grown h p n j r) where
@@ -151,7 +151,7 @@ module _ (h : List ℕ) (t p n j : ℕ) (r : Record) (k : Missing h t p n j r) w
         room = i;
       }
 
-      pub in_moved : (x : List ℕ) → x ≡ changed h t (recordsIn bs) → x ≡ changed h t new
+      pub in_moved : (x : List ℕ) → x ≡ changed h t (records_in bs) → x ≡ changed h t new
       in_moved x y = y ∙ ap (changed h t) (list_read new new_proper bs (e ∙ grown_is))
 
 -- ---- its minutes set

@@ -1,6 +1,6 @@
 // A tag's list that changes with its block.
 ghost use Rattle.std.specs.Prelude.{◌≡◌, true, ◌≢◌, ◌+◌, ◌-◌, ◌*◌, ◌≤◌, ◌<◌, length};
-ghost use Rattle.records.specs.Records.{insert as inserted, decode as recordsIn};
+ghost use Rattle.records.specs.Records.{insert as inserted, decode as records_in};
 ghost use Rattle.layout.specs.Capacities.{class_of};
 ghost use Rattle.home.specs.Bytes.{step_of, decode};
 ghost use Rattle.home.specs.Sound.{pages_of, list_of};
@@ -18,7 +18,7 @@ use zones::take::take_out;
 // The tag's list becomes this one, in a block of another class, for which there is room.
 fn move_list(home: &mut [u8], tag: u32, p: usize, n: usize, list: &[u8])
     requires { Moving home.old tag p n list.now }
-    ensures { home.new ≡ changed home.old tag (recordsIn list.now) }
+    ensures { home.new ≡ changed home.old tag (records_in list.now) }
 {
     let step = step_of(home);
     take_out(home, step, tag, class_of(step, n), p);

@@ -11,7 +11,7 @@ use Rattle.layout.specs.CapacitiesLaws.{rising as rises}
 use Rattle.layout.specs.Valid.{Proper}
 use Rattle.layout.proofs.EditsLaws.{valid-listed}
 use Rattle.home.specs.declared.Answer.TheVariants.{Count, Refused}
-use Rattle.home.specs.Bytes.{step_of, decode as zonesIn}
+use Rattle.home.specs.Bytes.{step_of, decode as zones_in}
 use Rattle.home.specs.HomeLaws.{all_mem}
 use Rattle.home.specs.Lookup.{offset_of}
 use Rattle.home.specs.Sound.{pages_of, sound, list_of}
@@ -26,7 +26,7 @@ use Rattle.reads.specs.Reads.{list_in, count_in, rank_in, show_in, show_from}
 -- lists of a sound home are rising and their values fit
 pub sound-listed : (h : List ℕ) (t : ℕ) → sound h ≡ true → Proper (list_of h t)
 unfolding list_of
-sound-listed h t e = valid-listed (cells (step_of h)) (class_of (step_of h)) (rises (step_of h)) (8 * pages_of h) t (zonesIn h) (sound-valid h e)
+sound-listed h t e = valid-listed (cells (step_of h)) (class_of (step_of h)) (rises (step_of h)) (8 * pages_of h) t (zones_in h) (sound-valid h e)
 
 pub list_reads : (h : List ℕ) (t : ℕ) (bs : List ℕ) → sound h ≡ true → bs ≡ encode (list_of h t) → decode bs ≡ list_of h t
 list_reads h t bs e f = ap decode f ∙ decode-encode (list_of h t) (all_mem (list_of h t) (sound-listed h t e).fits)

@@ -8,8 +8,8 @@ use Rattle.seats.specs.Seat.{cell_for, first_with, end_from, next_zone}
 home : List ℕ → List ℕ
 home low = 0 ∷ 4 ∷ (low ++ (0 ∷ 0 ∷ 0 ∷ 1 ∷ 0 ∷ 6 ∷ 0 ∷ 1 ∷ 0 ∷ 0 ∷ 0 ∷ 0 ∷ 0 ∷ 0 ∷ 0 ∷ 0 ∷ 0 ∷ 20 ∷ 0 ∷ 2 ∷ []))
 
-none-lower : List ℕ
-none-lower = 0 ∷ 0 ∷ 0 ∷ 0 ∷ []
+none_lower : List ℕ
+none_lower = 0 ∷ 0 ∷ 0 ∷ 0 ∷ []
 
 spoiled : List ℕ
 spoiled = 255 ∷ 254 ∷ 253 ∷ 252 ∷ []
@@ -17,9 +17,9 @@ spoiled = 255 ∷ 254 ∷ 253 ∷ 252 ∷ []
 -- ---- ends: with step code 0 blocks of classes 0, 1, 2 and 5 have 5, 6, 7 and 13 cells
 
 -- class 0 is empty, so the end stays 0; zone 1 ends at 6, zone 2 at 13, which zones 3 and 4 leave; zone 5 ends at 46
-ends : (end_from 0 1 (home none-lower) 0 0 ≡ 0) × (end_from 0 2 (home none-lower) 0 0 ≡ 6) × (end_from 0 3 (home none-lower) 0 0 ≡ 13)
-    × (end_from 0 5 (home none-lower) 0 0 ≡ 13) × (end_from 0 30 (home none-lower) 0 0 ≡ 46)
-unfolding home none-lower end_from get16 cells
+ends : (end_from 0 1 (home none_lower) 0 0 ≡ 0) × (end_from 0 2 (home none_lower) 0 0 ≡ 6) × (end_from 0 3 (home none_lower) 0 0 ≡ 13)
+    × (end_from 0 5 (home none_lower) 0 0 ≡ 13) × (end_from 0 30 (home none_lower) 0 0 ≡ 46)
+unfolding home none_lower end_from get16 cells
 ends = (refl, refl, refl, refl, refl)
 
 -- from class 1 up the entry of class 0 is not read
@@ -29,8 +29,8 @@ ends_unseen = (refl, refl)
 
 -- ---- the next nonempty zone
 
-next : (next_zone 30 (home none-lower) 0 ≡ 1) × (next_zone 29 (home spoiled) 1 ≡ 1) × (next_zone 27 (home spoiled) 3 ≡ 5) × (next_zone 24 (home spoiled) 6 ≡ 30)
-unfolding home none-lower spoiled next_zone get16
+next : (next_zone 30 (home none_lower) 0 ≡ 1) × (next_zone 29 (home spoiled) 1 ≡ 1) × (next_zone 27 (home spoiled) 3 ≡ 5) × (next_zone 24 (home spoiled) 6 ≡ 30)
+unfolding home none_lower spoiled next_zone get16
 next = (refl, refl, refl, refl)
 
 -- ---- cells

@@ -14,7 +14,7 @@ use Rattle.wire.specs.Bytes.{part, get16, get32, bytes16, bytes32, blank}
 use Rattle.wire.specs.BytesLaws.{part-cons, blank-zeros}
 use Rattle.wire.specs.All.{All, more, all_map}
 use Rattle.wire.specs.Cases.{or_left, or_right}
-use Rattle.records.specs.Records.{rising, records, encode as recordBytes}
+use Rattle.records.specs.Records.{rising, records, encode as record_bytes}
 use Rattle.records.specs.Edits.{length-encode}
 use Rattle.layout.specs.Capacities.{cells, capacity, class_of}
 use Rattle.layout.specs.CapacitiesLaws.{cells_pos, cells_most}
@@ -45,8 +45,8 @@ tail_zero step h p c b rest e =
     let n : ℕ = length b.list in
     let z : ℕ = 8 * (capacity step c - n) in
     let pad : List ℕ = replicate z 0 in
-    ap (take z) (sym (drop-drop (8 * n) (cell_at p + 8) h) ∙ ap (drop (8 * n)) (sym (drop-drop 8 (cell_at p) h) ∙ ap (drop 8) e ∙ append_assoc (recordBytes b.list) pad rest)
-    ∙ drop_at (recordBytes b.list) (pad ++ rest) (8 * n) (length-encode b.list))
+    ap (take z) (sym (drop-drop (8 * n) (cell_at p + 8) h) ∙ ap (drop (8 * n)) (sym (drop-drop 8 (cell_at p) h) ∙ ap (drop 8) e ∙ append_assoc (record_bytes b.list) pad rest)
+    ∙ drop_at (record_bytes b.list) (pad ++ rest) (8 * n) (length-encode b.list))
     ∙ take_at pad rest z (length-replicate z 0)
 
 header-zero : (step : ℕ) (h : List ℕ) (p c : ℕ) (b : Block) (rest : List ℕ) → drop (cell_at p) h ≡ block_bytes step c b ++ rest → get16 h (cell_at p + 6) ≡ 0

@@ -4,10 +4,10 @@
 ghost use Rattle.std.specs.Prelude.{◌≡◌, true, ◌&&◌, ◌+◌, ◌*◌, ◌^◌, ◌≤◌, ◌<◌, length, eqb};
 ghost use Rattle.wire.specs.Bytes.{part, blank, get16};
 ghost use Rattle.records.specs.Records.{rising as ordered, records};
-ghost use Rattle.layout.specs.Capacities.{capacity as capacityOf, under as underOf, cells as cells_of, short};
+ghost use Rattle.layout.specs.Capacities.{capacity as capacity_of, under as under_of, cells as cells_of, short};
 ghost use Rattle.home.specs.Bytes.{step_of, cell_at, tag_at};
-ghost use Rattle.home.specs.Sound.{sized as sizedOf, sound as isSound, bare as bareIn};
-ghost use Rattle.sound.specs.Checks.{coded as codedIn, block_fine, blocks_fine, lies as liesIn, zone_fine, zones_fine, many_in, tags_fine, leads_at, entry_fine};
+ghost use Rattle.home.specs.Sound.{sized as sized_of, sound as is_sound, bare as bare_in};
+ghost use Rattle.sound.specs.Checks.{coded as coded_in, block_fine, blocks_fine, lies as lies_in, zone_fine, zones_fine, many_in, tags_fine, leads_at, entry_fine};
 
 use home::AREA;
 use home::lookup::{step_of, zone_count, zone_first};
@@ -33,7 +33,7 @@ fn rising(home: &[u8], at: usize, n: usize) -> bool
 
 // A block at cell p in zone c, whose blocks have more than `low` records, and at most `room`.
 fn block_fine(home: &[u8], step: usize, c: usize, low: usize, room: usize, p: usize) -> bool
-    requires { (c < 30) × (low ≡ underOf step c) × (room ≡ capacityOf step c) × (cell_at p + 8 * cells_of step c ≤ length home.now) }
+    requires { (c < 30) × (low ≡ under_of step c) × (room ≡ capacity_of step c) × (cell_at p + 8 * cells_of step c ≤ length home.now) }
     ensures { result ≡ block_fine step home.now c p }
 {
     let at = AREA + 8 * p;
@@ -77,7 +77,7 @@ fn blocks_fine(home: &[u8], step: usize, c: usize, p: usize, n: usize) -> bool
 // than a block, and inside the area.
 fn lies(first: usize, many: usize, size: usize, e: usize, area: usize) -> bool
     requires { (first < 65536) × (many < 65536) × (size ≤ 990) × (e + size < 2 ^ 64) }
-    ensures { result ≡ liesIn area e size first many }
+    ensures { result ≡ lies_in area e size first many }
 {
     (e <= first) & ((first < e + size) & (first + many * size <= area))
 }
@@ -205,7 +205,7 @@ fn entries_fine(home: &[u8], step: usize, area: usize, n: usize) -> bool
 
 // Whether the length is 64(26 + R), R from 1 to 1,024.
 pub fn sized(home: &[u8]) -> bool
-    ensures { result ≡ sizedOf home.now }
+    ensures { result ≡ sized_of home.now }
 {
     let n = home.len();
     if n < 1728 {
@@ -218,7 +218,7 @@ pub fn sized(home: &[u8]) -> bool
 // Whether the step code is one of the two, with zeros behind it.
 fn coded(home: &[u8]) -> bool
     requires { 1664 ≤ length home.now }
-    ensures { result ≡ codedIn home.now }
+    ensures { result ≡ coded_in home.now }
 {
     (step_of(home) <= 1) & zeros(home, 123, 5)
 }
@@ -226,7 +226,7 @@ fn coded(home: &[u8]) -> bool
 // Whether all bytes are zero but for the step code: in one pass where that is zero, too.
 fn bare(home: &[u8]) -> bool
     requires { 1664 ≤ length home.now }
-    ensures { result ≡ bareIn home.now }
+    ensures { result ≡ bare_in home.now }
 {
     let step = step_of(home);
     if step == 0 {
@@ -240,8 +240,8 @@ fn bare(home: &[u8]) -> bool
 
 // Whether a home of n tags is sound.
 fn tagged(home: &[u8], step: usize, n: usize) -> bool
-    requires { (sizedOf home.now ≡ true) × (n ≡ get16 home.now 0) × (step ≡ step_of home.now) }
-    ensures { result ≡ isSound home.now }
+    requires { (sized_of home.now ≡ true) × (n ≡ get16 home.now 0) × (step ≡ step_of home.now) }
+    ensures { result ≡ is_sound home.now }
 {
     let area = 8 * (home.len() / 64 - 26);
     if 256 < n {
@@ -261,7 +261,7 @@ fn tagged(home: &[u8], step: usize, n: usize) -> bool
 
 // Whether bytes are a sound home. One without tags has zeros alone, but for its step code.
 pub fn sound(home: &[u8]) -> bool
-    ensures { result ≡ isSound home.now }
+    ensures { result ≡ is_sound home.now }
 {
     if !sized(home) {
         return false;

@@ -18,7 +18,7 @@ pub record Located (t : ℕ) (zs : List Zone) : Type 0 where
   pub higher : List Zone
   pub is : zs ≡ lower ++ zone first (before ++ block ∷ behind) ∷ higher
   pub tag : block.tag ≡ t
-  pub none-lower : has_tag t (blocks lower) ≡ false
+  pub none_lower : has_tag t (blocks lower) ≡ false
   pub none_before : has_tag t before ≡ false
 
 -- the bytes of a layout zs that is valid but for its gaps, in which that block has class c and lies at cell p

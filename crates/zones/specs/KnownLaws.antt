@@ -51,7 +51,7 @@ located t (empty ∷ zs) h =
       higher = k.higher;
       is = ap (λ (l : List Zone). empty ∷ l) k.is;
       tag = k.tag;
-      none-lower = k.none-lower;
+      none_lower = k.none_lower;
       none_before = k.none_before;
     }
 located t (from f x xs ∷ zs) h =
@@ -66,7 +66,7 @@ located t (from f x xs ∷ zs) h =
       higher = zs;
       is = ap (λ (l : List Block). zone f l ∷ zs) k.is;
       tag = k.tag;
-      none-lower = refl;
+      none_lower = refl;
       none_before = k.none;
     })
     (λ p. let k : Located t zs = located t zs (sym (has_append t (x ∷ xs) (blocks zs) p) ∙ h) in
@@ -79,7 +79,7 @@ located t (from f x xs ∷ zs) h =
       higher = k.higher;
       is = ap (λ (l : List Zone). from f x xs ∷ l) k.is;
       tag = k.tag;
-      none-lower = has_append t (x ∷ xs) (blocks k.lower) p ∙ k.none-lower;
+      none_lower = has_append t (x ∷ xs) (blocks k.lower) p ∙ k.none_lower;
       none_before = k.none_before;
     })
 

@@ -271,4 +271,4 @@ module _ (step R : ℕ) (h : List ℕ) (zs : List Zone) (t c p : ℕ) (k : Known
           let z : decode h' ≡ left = ap decode left_bytes ∙ decode_loose step R k.pages left left_loose in
           ap₂ (λ (n : ℕ) (l : List Zone). closed_bytes step n l (c + 1) e) (ap pages_of left_bytes ∙ pages_loose step R left left_loose) z
           ∙ out_closed step R k.pages zs k.found.lower k.found.first k.found.before k.found.block k.found.behind k.found.higher h t c p k.found.is k.bytes k.class k.cell k.found.tag k.found.none_before k.loose
-          e k.found.none-lower (closes_at ∙ ap (λ (l : List Zone). end_after step 0 0 (take (c + 1) l)) z)
+          e k.found.none_lower (closes_at ∙ ap (λ (l : List Zone). end_after step 0 0 (take (c + 1) l)) z)

@@ -2,7 +2,7 @@
 use Rattle.std.specs.Prelude.{◌≡◌, true, false, List, ◌∷◌, ◌++◌, ℕ, ◌+◌, ◌*◌, ◌-◌, ◌/◌, ◌≤◌, ◌<◌, length, replicate}
 use Rattle.std.proofs.Math.Option.{Option, map}
 use Rattle.wire.specs.Bytes.{over, get16, bytes16, bytes32}
-use Rattle.records.specs.Records.{rising, decode as recordsIn}
+use Rattle.records.specs.Records.{rising, decode as records_in}
 use Rattle.layout.specs.Capacities.{cells, class_of}
 use Rattle.layout.specs.Zones.{Block, Zone, blocks, has_tag, place}
 use Rattle.home.specs.Bytes.{step_of, decode, cell_at, first_at, many_at, end_at}
@@ -51,7 +51,7 @@ pub record From (step : ℕ) (h : List ℕ) (c e : ℕ) (bs : List ℕ) : Type 0
 
 -- the block of tag t with the records in bs
 abbrev pub block_in : ℕ → List ℕ → Block
-block_in t bs = record { tag = t; list = recordsIn bs }
+block_in t bs = record { tag = t; list = records_in bs }
 
 -- the layout with that block placed
 abbrev pub placed_in : List ℕ → ℕ → List ℕ → Option (List Zone)
@@ -65,4 +65,4 @@ pub record Placeable (h : List ℕ) (t : ℕ) (bs : List ℕ) : Type 0 where
   pub whole : length bs ≡ 8 * (length bs / 8)
   pub some : 0 < length bs / 8
   pub most : length bs / 8 ≤ 989
-  pub rising : rising (recordsIn bs) ≡ true
+  pub rising : rising (records_in bs) ≡ true

@@ -5,7 +5,7 @@ use Rattle.std.proofs.Common.{ap, ◌∙◌, subst, arith, add-one, ne_eqb}
 use Rattle.wire.specs.Bytes.{over, get16, bytes16, bytes32, Bytes}
 use Rattle.wire.specs.BytesLaws.{over-next}
 use Rattle.records.specs.declared.Record.{Record}
-use Rattle.records.specs.Records.{encode as recordBytes, decode as recordsIn}
+use Rattle.records.specs.Records.{encode as record_bytes, decode as records_in}
 use Rattle.records.specs.Cells.{length-records}
 use Rattle.records.specs.Edits.{length-encode, encode-decode as bytes_back}
 use Rattle.layout.specs.Capacities.{capacity, cells, class_of}
@@ -43,11 +43,11 @@ block_written step h at c t k bs e =
     ∙ over-next h at (at + 8 + length bs) (((bytes32 t ++ bytes16 n) ++ bytes16 0) ++ bs) z (omega arith)
     ∙ ap (λ (j : ℕ). over h at (bytes32 t ++ (bytes16 n ++ (0 ∷ 0 ∷ (bs ++ replicate (8 * j - 8 - length bs) 0))))) e
 
-pub block_is : (step c t : ℕ) (rs : List Record) → length rs ≤ capacity step c → whole_block step c t (recordBytes rs) ≡ block_bytes step c (record { tag = t; list = rs })
+pub block_is : (step c t : ℕ) (rs : List Record) → length rs ≤ capacity step c → whole_block step c t (record_bytes rs) ≡ block_bytes step c (record { tag = t; list = rs })
 unfolding whole_block block_bytes cells
 block_is step c t rs g =
-    let a : length (recordBytes rs) / 8 ≡ length rs = omega (arith, length-encode rs) in
-    let b : 8 * cells step c - 8 - length (recordBytes rs) ≡ 8 * (capacity step c - length rs) = omega (arith, length-encode rs) in
+    let a : length (record_bytes rs) / 8 ≡ length rs = omega (arith, length-encode rs) in
+    let b : 8 * cells step c - 8 - length (record_bytes rs) ≡ 8 * (capacity step c - length rs) = omega (arith, length-encode rs) in
     rw (a, b)
 
 -- ---- a block put in
@@ -136,7 +136,7 @@ able_class step h t c bs a q = omega (arith, class-most step (length bs / 8) a.m
 list-sits : (step : ℕ) (h : List ℕ) (t : ℕ) (bs : List ℕ) → Placeable h t bs → t < 4294967296 → Bytes bs → Sits step (class_of step (length bs / 8)) (block_in t bs)
 list-sits step h t bs a g b =
     let n : ℕ = length bs / 8 in
-    let l : length (recordsIn bs) ≡ n = length-records bs 0 n in
+    let l : length (records_in bs) ≡ n = length-records bs 0 n in
     record {
       tag = g;
       some = omega (arith, l, a.some);
@@ -168,4 +168,4 @@ module _ (step : ℕ) (h : List ℕ) (t : ℕ) (bs : List ℕ) (c : ℕ) (l : Fi
   unfolding cells
   fitting_bytes =
       sym (ap (whole_block step c t) (sym (bytes_back bs l.bytes (omega (arith, l.able.whole))))
-      ∙ block_is step c t (recordsIn bs) (omega (arith, fitting_fits, l.able.whole, length-records bs 0 (length bs / 8))))
+      ∙ block_is step c t (records_in bs) (omega (arith, fitting_fits, l.able.whole, length-records bs 0 (length bs / 8))))

@@ -1,5 +1,5 @@
 use mathlib.Core.Path.{ap, ◌∙◌}
-use Rattle.records.specs.Records.{ranked as rankedIn}
+use Rattle.records.specs.Records.{ranked as ranked_in}
 use Rattle.lists.specs.ListedLaws.{part-records}
 use Rattle.lists.proofs.read.search_at.Goals as goal
 
@@ -7,4 +7,4 @@ pub search-requires : goal.search-requires
 search-requires c = rw (part-records _ _ _ c.requires.0) c.requires.1
 
 pub returns : goal.returns
-returns c = c.search.ensures ∙ ap (rankedIn c.args.key) (part-records _ _ _ c.requires.0)
+returns c = c.search.ensures ∙ ap (ranked_in c.args.key) (part-records _ _ _ c.requires.0)
