@@ -86,7 +86,7 @@ fn piped(pieces: &[&[u8]]) -> Vec<u8> {
 }
 
 fn program() -> Command {
-    assert!(Path::new(PROGRAM).exists(), "{PROGRAM} is missing: rt check calls builds it");
+    assert!(Path::new(PROGRAM).exists(), "{PROGRAM} is missing: rt run in crates/calls builds it");
     Command::new(PROGRAM)
 }
 

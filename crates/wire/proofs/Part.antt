@@ -2,9 +2,9 @@
 use mathlib.Core.Path.{◌≡◌, sym, ap, ◌∙◌}
 use Prim.Native.Nat.{ℕ, ◌+◌, ◌-◌, ◌≤◌}
 use native.Mathlib.Omega.{arith}
-use mathlib.Core.List.{List, ◌++◌, append-nil}
-use lib.ListN.{length, take, drop, drop_of_length-le}
-use lib.Seq.{take-length, drop-drop}
+use mathlib.Core.List.{List, ◌++◌}
+use lib.ListN.{length, take}
+use lib.Seq.{drop-drop}
 use borrow.Rule.Slice.PartMut.{put_mid}
 use Rattle.wire.specs.Bytes.{over}
 use Rattle.wire.specs.BytesLaws.{over_is}
@@ -14,7 +14,3 @@ pub put-over : (at e : ℕ) (xs bs : List ℕ) → at + length bs ≡ e → e �
 put-over at e xs bs p g =
     let k : e - at ≡ length bs = omega arith in
     ap (λ (n : ℕ). put_mid at n xs bs) k ∙ ap (λ (z : List ℕ). take at xs ++ (bs ++ z)) (drop-drop (length bs) at xs) ∙ sym (over_is xs at bs (omega arith))
-
--- a copy of all of xs over as many bytes
-pub copy_whole : (xs zs : List ℕ) → length zs ≡ length xs → take (length xs) xs ++ drop (length xs) zs ≡ xs
-copy_whole xs zs e = rw (take-length xs, drop_of_length-le zs {i = length xs} (omega arith)) (append-nil xs)
