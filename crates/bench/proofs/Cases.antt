@@ -4,7 +4,7 @@ use Rattle.std.proofs.Common.{ap, ◌∙◌, arith}
 use Rattle.std.proofs.lemmas.List.{length-replicate}
 use Rattle.wire.specs.Bytes.{zeros_but, pick, part, over, get16, get32, bytes16, bytes32, equal, blank}
 use Rattle.wire.specs.Cases.{by_test}
-use Rattle.wire.specs.Rules.{first}
+use Rattle.refusals.specs.Rules.{first}
 use Rattle.records.specs.Records.{key, look, insert, remove, rising_from, bytes_of, record_at, records}
 use Rattle.redo.specs.Store.{apply, run}
 use Rattle.redo.specs.Image.{letters, home, in_range, image_length, head_ok, head_page, empty_image}

@@ -1,25 +1,20 @@
 -- The specification's starred bench cases, 1 to 10: one table, computed from the definitions that the calls' contracts cite.
-use Rattle.std.specs.Prelude.{List, [], ◌∷◌, map, ℕ, ◌+◌, replicate}
+use Rattle.std.specs.Prelude.{Ok, Err, List, [], ◌∷◌, map, ℕ, ◌+◌, replicate}
+use Rattle.std.specs.declared.result.Result.{Result}
 use Rattle.wire.specs.Bytes.{pick, equal}
-use Rattle.wire.specs.Rules.{first, answered, left}
+use Rattle.refusals.specs.declared.Refusal.{Refusal}
+use Rattle.refusals.specs.declared.Refusal.TheVariants.{LogShort, NoRoom}
+use Rattle.refusals.specs.Rules.{Answer, answered, left}
 use Rattle.records.specs.declared.Record.{Record}
-use Rattle.records.specs.Records.{key, records}
+use Rattle.records.specs.Records.{key}
 use Rattle.redo.specs.Image.{home, image_length}
 use Rattle.redo.specs.Entry.{Entry}
-use Rattle.image_log.specs.declared.Outcome.{Outcome}
-use Rattle.image_log.specs.declared.Outcome.TheVariants.{Done, Cut, Refused as CommitRefused}
-use Rattle.image_log.specs.Calls.{Plan, answer, after, recover_plan, changed_pages, commit_plan}
-use Rattle.layout.specs.Capacities.{cells}
-use Rattle.layout.specs.Zones.{blocks, change}
+use Rattle.image_log.specs.declared.Stored.TheVariants.{Done, Cut}
+use Rattle.image_log.specs.Calls.{Outcome, Plan, answer, after, recover_plan, changed_pages, commit_plan}
 use Rattle.home.specs.Bytes.{step_of, Spot, spots, decode}
 use Rattle.home.specs.Sound.{sound}
-use Rattle.layout.specs.Edits.{put}
-use Rattle.home.specs.declared.Answer.{Answer}
-use Rattle.home.specs.declared.Answer.TheVariants.{Count, Refused}
 use Rattle.gates.specs.declared.Of.TheVariants.{Image}
 use Rattle.reads.specs.Reads.{count_in}
-use Rattle.index.specs.declared.Begun.{Begun}
-use Rattle.index.specs.declared.Begun.TheVariants.{Done as BeginDone, Refused as BeginRefused}
 use Rattle.edits.specs.declared.Terminal.TheVariants.{Desk}
 use Rattle.index.specs.Calls.{begin_call, put_call, delete_call, drop_call, format_plan}
 
@@ -48,19 +43,19 @@ pub data Found : Type 0 where
 
 -- what comes of it: begin's answer, or an edit's, and all blocks by cell; the pages that differ; a commit's answer;
 -- a commit's answer, the home that the recovery leaves, and the count
-pub data Result : Type 0 where
-  began : Begun → List Lies → Result
-  edited : Answer → List Lies → Result
-  differ : List ℕ → Result
-  committed : Outcome → Result
-  recovered : Outcome → Found → Answer → Result
+pub data Effect : Type 0 where
+  began : Result (Unit {0}) Refusal → List Lies → Effect
+  edited : Answer → List Lies → Effect
+  differ : List ℕ → Effect
+  committed : Outcome → Effect
+  recovered : Outcome → Found → Answer → Effect
 
 pub record Row : Type 0 where
   pub case : ℕ
   pub call : Call
-  pub gives : Result
+  pub gives : Effect
 
-abbrev pub row : ℕ → Call → Result → Row
+abbrev pub row : ℕ → Call → Effect → Row
 row k c g = record { case = k; call = c; gives = g }
 
 -- ---- what the definitions give
@@ -98,7 +93,7 @@ unfoldable pub which : List ℕ → List ℕ → List ℕ → Found
 which h w x = pick (equal x h) old (pick (equal x w) new neither)
 
 -- a commit's answer, and what is seen in the image l afterwards: which home, h or w, and how many records tag t has
-unfoldable pub seen : Outcome → List ℕ → List ℕ → ℕ → List ℕ → Result
+unfoldable pub seen : Outcome → List ℕ → List ℕ → ℕ → List ℕ → Effect
 seen a h w t l = recovered a (which h w (home l)) (count_in Image l t)
 
 -- the state after a call; `fresh` gives the image that a format leaves. Each commit is tried on the same image
@@ -112,11 +107,11 @@ next fresh (committing n) s = s
 next fresh (recovering n t) s = s
 
 -- what a call gives, by the states before and after it
-unfoldable pub result : Call → State → State → Result
-result (starting L) s s' = began (answered BeginRefused (begin_call s'.image lent)) (laid s'.space)
-result (putting t n) s s' = edited (answered Refused (put_call Desk s.space t (of n))) (laid s'.space)
-result (deleting t n) s s' = edited (answered Refused (delete_call s.space t (key (of n)))) (laid s'.space)
-result (dropping t) s s' = edited (answered Refused (drop_call s.space t)) (laid s'.space)
+unfoldable pub result : Call → State → State → Effect
+result (starting L) s s' = began (answered Err (begin_call s'.image lent)) (laid s'.space)
+result (putting t n) s s' = edited (answered Err (put_call Desk s.space t (of n))) (laid s'.space)
+result (deleting t n) s s' = edited (answered Err (delete_call s.space t (key (of n)))) (laid s'.space)
+result (dropping t) s s' = edited (answered Err (drop_call s.space t)) (laid s'.space)
 result comparing s s' = differ (map (λ (e : Entry). e.page) (changed_pages s.image s.space))
 result (committing n) s s' = committed (answer (commit_plan sound s.image s.space) n)
 result (recovering n t) s s' =
@@ -135,51 +130,51 @@ follow fresh (r ∷ rs) s =
 unfoldable pub expected : List Row
 expected =
     -- "R = 2 (16 cells), one edit after another."
-    row 1 (starting 28) (began BeginDone []) ∷
+    row 1 (starting 28) (began (Ok tt) []) ∷
     -- 1. "Put to tag 7, then tag 9: blocks at cells 0 and 5."
-    row 1 (putting 7 1) (edited (Count 1) (lies 7 0 0 ∷ [])) ∷
-    row 1 (putting 9 1) (edited (Count 1) (lies 7 0 0 ∷ lies 9 5 0 ∷ [])) ∷
+    row 1 (putting 7 1) (edited (Ok 1) (lies 7 0 0 ∷ [])) ∷
+    row 1 (putting 9 1) (edited (Ok 1) (lies 7 0 0 ∷ lies 9 5 0 ∷ [])) ∷
     -- 2. "Tag 7's fifth record: 9 is at 0, 7 at 5 in class 1."
-    row 2 (putting 7 2) (edited (Count 2) (lies 7 0 0 ∷ lies 9 5 0 ∷ [])) ∷
-    row 2 (putting 7 3) (edited (Count 3) (lies 7 0 0 ∷ lies 9 5 0 ∷ [])) ∷
-    row 2 (putting 7 4) (edited (Count 4) (lies 7 0 0 ∷ lies 9 5 0 ∷ [])) ∷
-    row 2 (putting 7 5) (edited (Count 5) (lies 9 0 0 ∷ lies 7 5 1 ∷ [])) ∷
+    row 2 (putting 7 2) (edited (Ok 2) (lies 7 0 0 ∷ lies 9 5 0 ∷ [])) ∷
+    row 2 (putting 7 3) (edited (Ok 3) (lies 7 0 0 ∷ lies 9 5 0 ∷ [])) ∷
+    row 2 (putting 7 4) (edited (Ok 4) (lies 7 0 0 ∷ lies 9 5 0 ∷ [])) ∷
+    row 2 (putting 7 5) (edited (Ok 5) (lies 9 0 0 ∷ lies 7 5 1 ∷ [])) ∷
     -- 3. "Put to tag 11: 9 at 0, 11 at 5, 7 at 10. The area is full."
-    row 3 (putting 11 1) (edited (Count 1) (lies 9 0 0 ∷ lies 11 5 0 ∷ lies 7 10 1 ∷ [])) ∷
+    row 3 (putting 11 1) (edited (Ok 1) (lies 9 0 0 ∷ lies 11 5 0 ∷ lies 7 10 1 ∷ [])) ∷
     -- 4. "Put to tag 13: 12."
-    row 4 (putting 13 1) (edited (Refused 12) (lies 9 0 0 ∷ lies 11 5 0 ∷ lies 7 10 1 ∷ [])) ∷
+    row 4 (putting 13 1) (edited (Err NoRoom) (lies 9 0 0 ∷ lies 11 5 0 ∷ lies 7 10 1 ∷ [])) ∷
     -- 5. "Delete one of 7: it stays at 10 in class 0. Put to 13: still 12."
-    row 5 (deleting 7 3) (edited (Count 4) (lies 9 0 0 ∷ lies 11 5 0 ∷ lies 7 10 0 ∷ [])) ∷
-    row 5 (putting 13 1) (edited (Refused 12) (lies 9 0 0 ∷ lies 11 5 0 ∷ lies 7 10 0 ∷ [])) ∷
+    row 5 (deleting 7 3) (edited (Ok 4) (lies 9 0 0 ∷ lies 11 5 0 ∷ lies 7 10 0 ∷ [])) ∷
+    row 5 (putting 13 1) (edited (Err NoRoom) (lies 9 0 0 ∷ lies 11 5 0 ∷ lies 7 10 0 ∷ [])) ∷
     -- 6. "Drop 9: 7 moves to 0. Put to 13: cell 10."
-    row 6 (dropping 9) (edited (Count 0) (lies 7 0 0 ∷ lies 11 5 0 ∷ [])) ∷
-    row 6 (putting 13 1) (edited (Count 1) (lies 7 0 0 ∷ lies 11 5 0 ∷ lies 13 10 0 ∷ [])) ∷
+    row 6 (dropping 9) (edited (Ok 0) (lies 7 0 0 ∷ lies 11 5 0 ∷ [])) ∷
+    row 6 (putting 13 1) (edited (Ok 1) (lies 7 0 0 ∷ lies 11 5 0 ∷ lies 13 10 0 ∷ [])) ∷
     -- 7. "Two class 0 blocks at 0 and 5, class 1 at 10. Drop the first: class 1 stays. Drop the other too: it starts at 4."
-    row 7 (putting 13 2) (edited (Count 2) (lies 7 0 0 ∷ lies 11 5 0 ∷ lies 13 10 0 ∷ [])) ∷
-    row 7 (putting 13 3) (edited (Count 3) (lies 7 0 0 ∷ lies 11 5 0 ∷ lies 13 10 0 ∷ [])) ∷
-    row 7 (putting 13 4) (edited (Count 4) (lies 7 0 0 ∷ lies 11 5 0 ∷ lies 13 10 0 ∷ [])) ∷
-    row 7 (putting 13 5) (edited (Count 5) (lies 7 0 0 ∷ lies 11 5 0 ∷ lies 13 10 1 ∷ [])) ∷
-    row 7 (dropping 7) (edited (Count 0) (lies 11 0 0 ∷ lies 13 10 1 ∷ [])) ∷
-    row 7 (dropping 11) (edited (Count 0) (lies 13 4 1 ∷ [])) ∷
+    row 7 (putting 13 2) (edited (Ok 2) (lies 7 0 0 ∷ lies 11 5 0 ∷ lies 13 10 0 ∷ [])) ∷
+    row 7 (putting 13 3) (edited (Ok 3) (lies 7 0 0 ∷ lies 11 5 0 ∷ lies 13 10 0 ∷ [])) ∷
+    row 7 (putting 13 4) (edited (Ok 4) (lies 7 0 0 ∷ lies 11 5 0 ∷ lies 13 10 0 ∷ [])) ∷
+    row 7 (putting 13 5) (edited (Ok 5) (lies 7 0 0 ∷ lies 11 5 0 ∷ lies 13 10 1 ∷ [])) ∷
+    row 7 (dropping 7) (edited (Ok 0) (lies 11 0 0 ∷ lies 13 10 1 ∷ [])) ∷
+    row 7 (dropping 11) (edited (Ok 0) (lies 13 4 1 ∷ [])) ∷
     -- 8. "First put to tag 7 on a fresh image, L = 28: pages 0, 2, 26 differ, 394 stores. Cut after 200: old. After 201: new."
-    row 8 (starting 28) (began BeginDone []) ∷
-    row 8 (putting 7 1) (edited (Count 1) (lies 7 0 0 ∷ [])) ∷
+    row 8 (starting 28) (began (Ok tt) []) ∷
+    row 8 (putting 7 1) (edited (Ok 1) (lies 7 0 0 ∷ [])) ∷
     row 8 comparing (differ (0 ∷ 2 ∷ 26 ∷ [])) ∷
-    row 8 (committing 393) (committed (Cut 393)) ∷
-    row 8 (recovering 394 7) (recovered (Done 394) new (Count 1)) ∷
-    row 8 (recovering 200 7) (recovered (Cut 200) old (Count 0)) ∷
-    row 8 (recovering 201 7) (recovered (Cut 201) new (Count 1)) ∷
+    row 8 (committing 393) (committed (Ok (Cut 393))) ∷
+    row 8 (recovering 394 7) (recovered (Ok (Done 394)) new (Ok 1)) ∷
+    row 8 (recovering 200 7) (recovered (Ok (Cut 200)) old (Ok 0)) ∷
+    row 8 (recovering 201 7) (recovered (Ok (Cut 201)) new (Ok 1)) ∷
     -- 9. "The same with tag 0: page 2 doesn't change, 264 stores."
-    row 9 (starting 28) (began BeginDone []) ∷
-    row 9 (putting 0 1) (edited (Count 1) (lies 0 0 0 ∷ [])) ∷
+    row 9 (starting 28) (began (Ok tt) []) ∷
+    row 9 (putting 0 1) (edited (Ok 1) (lies 0 0 0 ∷ [])) ∷
     row 9 comparing (differ (0 ∷ 26 ∷ [])) ∷
-    row 9 (committing 263) (committed (Cut 263)) ∷
-    row 9 (committing 264) (committed (Done 264)) ∷
+    row 9 (committing 263) (committed (Ok (Cut 263))) ∷
+    row 9 (committing 264) (committed (Ok (Done 264))) ∷
     -- 10. "Case 8 with L = 2: 13."
-    row 10 (starting 2) (began BeginDone []) ∷
-    row 10 (putting 7 1) (edited (Count 1) (lies 7 0 0 ∷ [])) ∷
+    row 10 (starting 2) (began (Ok tt) []) ∷
+    row 10 (putting 7 1) (edited (Ok 1) (lies 7 0 0 ∷ [])) ∷
     row 10 comparing (differ (0 ∷ 2 ∷ 26 ∷ [])) ∷
-    row 10 (committing 394) (committed (CommitRefused 13)) ∷
+    row 10 (committing 394) (committed (Err LogShort)) ∷
     []
 
 -- what the definitions give for its calls; at first there is nothing

@@ -6,141 +6,109 @@
 ghost use Rattle.std.specs.Prelude.{◌<◌};
 
 use gates::Of;
-use home::Answer;
-use image_log::Outcome;
-use index::Begun;
+use image_log::Stored;
 use records::Record;
+use refusals::Refusal;
+use std::fmt::{self, Display, Formatter};
 use std::io::Write;
 use std::rt::Stdout;
 
-fn word(out: &mut Stdout, text: &[u8]) {
-    match out.write_all(text) {
-        Ok(_) => {},
-        Err(_) => {},
+// What a call answers, or the number of its refusal.
+#[derive(Drop)]
+struct Answer<T>(Result<T, Refusal>);
+
+impl<T: Display> Display for Answer<T> {
+    fn fmt<W: fmt::Write>(&self, f: &mut Formatter<W>) -> fmt::Result {
+        match &self.0 {
+            Ok(answer) => write!(f, "{answer}"),
+            Err(refusal) => write!(f, "refused {}", u8::from(*refusal)),
+        }
     }
 }
 
-fn decimal(out: &mut Stdout, n: u64) {
-    match write!(out, "{n}") {
-        Ok(_) => {},
-        Err(_) => {},
+// How far a call that stores has come.
+#[derive(Drop)]
+struct Stores(Stored);
+
+impl Display for Stores {
+    fn fmt<W: fmt::Write>(&self, f: &mut Formatter<W>) -> fmt::Result {
+        match self.0 {
+            Stored::Done(n) => write!(f, "done, {n} stores"),
+            Stored::Cut(n) => write!(f, "cut, {n} stores"),
+        }
     }
 }
 
-fn number(out: &mut Stdout, n: usize) {
-    decimal(out, n as u64);
+// What an image is formatted for: log entries, record pages and a step code.
+#[derive(Clone, Copy, Debug, PartialEq, Eq)]
+struct Sizes {
+    capacity: usize,
+    pages: usize,
+    step: usize,
 }
 
-fn tag_number(out: &mut Stdout, tag: u32) {
-    decimal(out, tag as u64);
-}
-
-fn refused(out: &mut Stdout, n: u8) {
-    word(out, b"refused ");
-    decimal(out, n as u64);
-}
-
-fn answer(out: &mut Stdout, a: Answer) {
-    match a {
-        Answer::Count(n) => number(out, n),
-        Answer::Refused(n) => refused(out, n),
+impl Display for Sizes {
+    fn fmt<W: fmt::Write>(&self, f: &mut Formatter<W>) -> fmt::Result {
+        write!(f, "{}, {}", self.capacity, self.pages)?;
+        if self.step != 0 {
+            write!(f, ", step {}", self.step)?;
+        }
+        Ok(())
     }
 }
 
-fn stores(out: &mut Stdout, how: &[u8], n: usize) {
-    word(out, how);
-    number(out, n);
-    word(out, b" stores");
-}
+// Those of most cases, and the same with step code 1.
+const FINE: Sizes = Sizes {
+    capacity: 28,
+    pages: 2,
+    step: 0,
+};
 
-fn outcome(out: &mut Stdout, o: Outcome) {
-    match o {
-        Outcome::Done(n) => stores(out, b"done, ", n),
-        Outcome::Cut(n) => stores(out, b"cut, ", n),
-        Outcome::Refused(n) => refused(out, n),
-    }
-}
-
-fn begun(out: &mut Stdout, b: Begun) {
-    match b {
-        Begun::Done => word(out, b"done"),
-        Begun::Refused(n) => refused(out, n),
-    }
-}
+const COARSE: Sizes = Sizes { step: 1, ..FINE };
 
 // ---- blocks
 
 fn get16(s: &[u8], at: usize) -> usize
     ensures { result < 65536 }
 {
-    if at < 100000 && at + 1 < s.len() {
-        wire::get16(s, at)
-    } else {
-        0
+    match s.get(at..) {
+        Some([a, b, ..]) => usize::from(u16::from_be_bytes([*a, *b])),
+        _ => 0,
     }
 }
 
 fn get32(s: &[u8], at: usize) -> u32 {
-    if at < 100000 && at + 3 < s.len() {
-        wire::get32(s, at)
-    } else {
-        0
+    match s.get(at..) {
+        Some([a, b, c, d, ..]) => u32::from_be_bytes([*a, *b, *c, *d]),
+        _ => 0,
     }
 }
 
 fn step_of(space: &[u8]) -> usize {
-    if 122 < space.len() {
-        wire::get8(space, 122)
-    } else {
-        0
-    }
+    space.get(122).map_or(0, |step| usize::from(*step))
 }
 
 // Whether a cell is in the zone of class c.
-fn in_zone(space: &[u8], c: usize, cell: usize) -> bool {
-    if c < 30 {
-        let first = get16(space, 2 + 4 * c);
-        let size = layout::classes::cells(step_of(space), c);
-        first <= cell && (cell - first) / size < get16(space, 4 + 4 * c)
-    } else {
-        false
-    }
+fn in_zone(space: &[u8], c: usize, cell: usize) -> bool
+    requires { c < 30 }
+{
+    let first = get16(space, 2 + 4 * c);
+    let size = layout::classes::cells(step_of(space), c);
+    first <= cell && (cell - first) / size < get16(space, 4 + 4 * c)
 }
 
 // The class of the zone that a cell is in, or 30.
 fn class_at(space: &[u8], cell: usize) -> usize {
-    let mut c = 0;
-    while c < 30 {
-        if in_zone(space, c, cell) {
-            return c;
-        }
-        c += 1;
-    }
-    30
-}
-
-// A block, by its dictionary entry.
-fn block(out: &mut Stdout, space: &[u8], tag: u32, cell: usize) {
-    word(out, b"; ");
-    tag_number(out, tag);
-    word(out, b" at ");
-    number(out, cell);
-    word(out, b" in class ");
-    number(out, class_at(space, cell));
+    (0..30).find(|&c| in_zone(space, c, cell)).unwrap_or(30)
 }
 
 // All blocks, in the dictionary's order.
 fn blocks(out: &mut Stdout, space: &[u8]) {
-    let tags = get16(space, 0);
-    let mut i = 0;
-    while i < tags {
-        block(
-            out,
-            space,
-            get32(space, 128 + 6 * i),
-            get16(space, 132 + 6 * i),
-        );
-        i += 1;
+    for i in 0..get16(space, 0) {
+        let tag = get32(space, 128 + 6 * i);
+        let cell = get16(space, 132 + 6 * i);
+        let class = class_at(space, cell);
+        let _ = write!(out, "; {tag} at {cell} in class {class}");
     }
 }
 
@@ -149,165 +117,115 @@ fn blocks(out: &mut Stdout, space: &[u8]) {
 fn call(second: u32) -> Record {
     Record {
         level: 0,
-        second: second,
+        second,
         phone: 0,
         minutes: 0,
     }
 }
 
-fn begin_line(out: &mut Stdout, case: usize, name: &[u8]) {
-    number(out, case);
-    word(out, b". ");
-    word(out, name);
-}
-
-fn edited(out: &mut Stdout, case: usize, name: &[u8], tag: u32, a: Answer, space: &[u8]) {
-    begin_line(out, case, name);
-    tag_number(out, tag);
-    word(out, b": ");
-    answer(out, a);
+fn edited(
+    out: &mut Stdout,
+    case: usize,
+    edit: &str,
+    tag: u32,
+    count: Result<usize, Refusal>,
+    space: &[u8],
+) {
+    let _ = write!(out, "{case}. {edit} {tag}: {}", Answer(count));
     blocks(out, space);
-    word(out, b"\n");
+    let _ = writeln!(out);
 }
 
 fn put(out: &mut Stdout, case: usize, space: &mut [u8], tag: u32, second: u32) {
-    let a = index::put(space, tag, call(second));
-    edited(out, case, b"put ", tag, a, space);
+    let count = index::put(space, tag, call(second));
+    edited(out, case, "put", tag, count, space);
 }
 
 fn delete(out: &mut Stdout, case: usize, space: &mut [u8], tag: u32, second: u32) {
-    let a = index::delete(space, tag, call(second));
-    edited(out, case, b"delete ", tag, a, space);
+    let count = index::delete(space, tag, call(second));
+    edited(out, case, "delete", tag, count, space);
 }
 
 fn drop_tag(out: &mut Stdout, case: usize, space: &mut [u8], tag: u32) {
-    let a = index::drop_tag(space, tag);
-    edited(out, case, b"drop ", tag, a, space);
+    let count = index::drop_tag(space, tag);
+    edited(out, case, "drop", tag, count, space);
 }
 
 // Puts the calls of seconds 1 to 988.
 fn put_988(space: &mut [u8], tag: u32) {
-    let mut second: u32 = 1;
-    while second < 989 {
-        index::put(space, tag, call(second));
-        second += 1;
+    for second in 1..989 {
+        let _ = index::put(space, tag, call(second));
     }
 }
 
 // ---- images
 
-fn begin(out: &mut Stdout, image: &[u8], space: &mut [u8]) {
-    word(out, b"; begin: ");
-    begun(out, index::begin(image, space));
-    word(out, b"\n");
+fn format(out: &mut Stdout, case: usize, image: &mut [u8], sizes: Sizes) {
+    let Sizes {
+        capacity,
+        pages,
+        step,
+    } = sizes;
+    let stores = index::format(image, capacity, pages, step, 100000).map(Stores);
+    let _ = write!(out, "{case}. format {sizes}: {}", Answer(stores));
 }
 
-fn format(out: &mut Stdout, case: usize, image: &mut [u8], capacity: usize, pages: usize) {
-    begin_line(out, case, b"format ");
-    number(out, capacity);
-    word(out, b", ");
-    number(out, pages);
-    word(out, b": ");
-    outcome(out, index::format(image, capacity, pages, 0, 100000));
+// Ends the line with a begin.
+fn begin(out: &mut Stdout, image: &[u8], space: &mut [u8]) {
+    let begun = index::begin(image, space).map(|()| "done");
+    let _ = writeln!(out, "; begin: {}", Answer(begun));
 }
 
 // A fresh image and its workspace.
-fn start(
-    out: &mut Stdout,
-    case: usize,
-    image: &mut [u8],
-    space: &mut [u8],
-    capacity: usize,
-    pages: usize,
-) {
-    format(out, case, image, capacity, pages);
+fn start(out: &mut Stdout, case: usize, image: &mut [u8], space: &mut [u8], sizes: Sizes) {
+    format(out, case, image, sizes);
     begin(out, image, space);
-}
-
-// With this step code.
-fn format_step(out: &mut Stdout, case: usize, image: &mut [u8], step: usize) {
-    begin_line(out, case, b"format 28, 2, step ");
-    number(out, step);
-    word(out, b": ");
-    outcome(out, index::format(image, 28, 2, step, 100000));
-}
-
-fn start_coarse(out: &mut Stdout, case: usize, image: &mut [u8], space: &mut [u8]) {
-    format_step(out, case, image, 1);
-    begin(out, image, space);
-}
-
-// Whether two homes differ in page p.
-fn page_differs(a: &[u8], b: &[u8], p: usize) -> bool {
-    if p < 2000 && 64 * p + 64 <= a.len() && 64 * p + 64 <= b.len() {
-        !wire::equal(&a[64 * p..64 * p + 64], &b[64 * p..64 * p + 64])
-    } else {
-        false
-    }
-}
-
-fn page_line(out: &mut Stdout, a: &[u8], b: &[u8], p: usize) {
-    if page_differs(a, b, p) {
-        word(out, b" ");
-        number(out, p);
-    }
 }
 
 // The pages in which home and workspace differ.
 fn pages(out: &mut Stdout, case: usize, image: &[u8], space: &[u8]) {
-    begin_line(out, case, b"pages that differ:");
+    let _ = write!(out, "{case}. pages that differ:");
     let home = image_log::home(image);
-    let mut p = 0;
-    while p < 28 {
-        page_line(out, home, space, p);
-        p += 1;
+    for (page, (a, b)) in home.chunks(64).zip(space.chunks(64)).enumerate() {
+        if a != b {
+            let _ = write!(out, " {page}");
+        }
     }
-    word(out, b"\n");
+    let _ = writeln!(out);
 }
 
 // Which home an image holds.
-fn which(out: &mut Stdout, home: &[u8], old: &[u8], new: &[u8]) {
-    if wire::equal(home, old) {
-        word(out, b"old");
-    } else if wire::equal(home, new) {
-        word(out, b"new");
+fn which(home: &[u8], old: &[u8], new: &[u8]) -> &'static str {
+    if home == old {
+        "old"
+    } else if home == new {
+        "new"
     } else {
-        word(out, b"neither");
+        "neither"
     }
 }
 
 fn commit(out: &mut Stdout, case: usize, image: &mut [u8], space: &[u8], n: usize) {
-    begin_line(out, case, b"commit with ");
-    number(out, n);
-    word(out, b": ");
-    outcome(out, index::commit(image, space, n));
+    let stores = index::commit(image, space, n).map(Stores);
+    let _ = write!(out, "{case}. commit with {n}: {}", Answer(stores));
 }
 
 // What a recovery leaves of a commit, and the count of a tag's list.
 fn recover(out: &mut Stdout, image: &mut [u8], old: &[u8], new: &[u8], tag: u32) {
-    word(out, b"; recover: ");
-    outcome(out, index::recover(image, 100000));
-    word(out, b"; home is ");
-    which(out, image_log::home(image), old, new);
-    word(out, b"; ");
-    tag_number(out, tag);
-    word(out, b" has ");
-    answer(out, reads::count(Of::Image, image, tag));
+    let stores = Answer(index::recover(image, 100000).map(Stores));
+    let home = which(image_log::home(image), old, new);
+    let count = Answer(reads::count(Of::Image, image, tag));
+    let _ = writeln!(
+        out,
+        "; recover: {stores}; home is {home}; {tag} has {count}"
+    );
 }
 
-fn load(to: &mut [u8], from: &[u8]) {
-    if from.len() <= to.len() {
-        wire::copy(to, 0, from);
-    }
-}
-
-// A commit with an allowance of n on a copy of an image of 3,704 bytes, and a recovery.
-fn attempt(out: &mut Stdout, case: usize, image: &[u8], space: &[u8], n: usize, tag: u32) {
-    let mut tried = [0u8; 3704];
-    load(&mut tried, image);
+// A commit with an allowance of n on a copy of an image, and a recovery.
+fn attempt(out: &mut Stdout, case: usize, image: &[u8; 3704], space: &[u8], n: usize, tag: u32) {
+    let mut tried = *image;
     commit(out, case, &mut tried, space, n);
     recover(out, &mut tried, image_log::home(image), space, tag);
-    word(out, b"\n");
 }
 
 // ---- cases
@@ -339,8 +257,8 @@ fn case_7(out: &mut Stdout, space: &mut [u8]) {
     drop_tag(out, 7, space, 11);
 }
 
-fn case_8(out: &mut Stdout, image: &mut [u8], space: &mut [u8]) {
-    start(out, 8, image, space, 28, 2);
+fn case_8(out: &mut Stdout, image: &mut [u8; 3704], space: &mut [u8]) {
+    start(out, 8, image, space, FINE);
     put(out, 8, space, 7, 1);
     pages(out, 8, image, space);
     attempt(out, 8, image, space, 200, 7);
@@ -349,8 +267,8 @@ fn case_8(out: &mut Stdout, image: &mut [u8], space: &mut [u8]) {
     attempt(out, 8, image, space, 394, 7);
 }
 
-fn case_9(out: &mut Stdout, image: &mut [u8], space: &mut [u8]) {
-    start(out, 9, image, space, 28, 2);
+fn case_9(out: &mut Stdout, image: &mut [u8; 3704], space: &mut [u8]) {
+    start(out, 9, image, space, FINE);
     put(out, 9, space, 0, 1);
     pages(out, 9, image, space);
     attempt(out, 9, image, space, 263, 0);
@@ -359,17 +277,26 @@ fn case_9(out: &mut Stdout, image: &mut [u8], space: &mut [u8]) {
 
 fn case_10(out: &mut Stdout, space: &mut [u8]) {
     let mut image = [0u8; 1988];
-    start(out, 10, &mut image, space, 2, 2);
+    let sizes = Sizes {
+        capacity: 2,
+        ..FINE
+    };
+    start(out, 10, &mut image, space, sizes);
     put(out, 10, space, 7, 1);
     pages(out, 10, &image, space);
     commit(out, 10, &mut image, space, 394);
-    word(out, b"\n");
+    let _ = writeln!(out);
 }
 
 fn case_11(out: &mut Stdout) {
     let mut image = [0u8; 18178];
     let mut space = [0u8; 18048];
-    start(out, 11, &mut image, &mut space, 1, 256);
+    let sizes = Sizes {
+        capacity: 1,
+        pages: 256,
+        step: 0,
+    };
+    start(out, 11, &mut image, &mut space, sizes);
     put_988(&mut space, 7);
     put(out, 11, &mut space, 7, 989);
     put(out, 11, &mut space, 7, 990);
@@ -377,13 +304,13 @@ fn case_11(out: &mut Stdout) {
 }
 
 fn case_12(out: &mut Stdout, image: &mut [u8], space: &mut [u8]) {
-    start(out, 12, image, space, 28, 2);
+    start(out, 12, image, space, FINE);
     put(out, 12, space, 7, 1);
     commit(out, 12, image, space, 394);
     begin(out, image, space);
     pages(out, 12, image, space);
     commit(out, 12, image, space, 0);
-    word(out, b"\n");
+    let _ = writeln!(out);
 }
 
 // ---- step code 1
@@ -408,21 +335,21 @@ fn case_13(out: &mut Stdout, space: &mut [u8]) {
 }
 
 fn coarse(out: &mut Stdout, image: &mut [u8], space: &mut [u8]) {
-    start_coarse(out, 1, image, space);
+    start(out, 1, image, space, COARSE);
     cases_1_to_4(out, space);
     cases_5_and_6(out, space);
     case_7(out, space);
-    start_coarse(out, 13, image, space);
+    start(out, 13, image, space, COARSE);
     case_13(out, space);
-    format_step(out, 14, image, 2);
-    word(out, b"\n");
+    format(out, 14, image, Sizes { step: 2, ..FINE });
+    let _ = writeln!(out);
 }
 
 fn main(rt: HostRuntime) {
     let mut out = rt.stdout();
     let mut image = [0u8; 3704];
     let mut space = [0u8; 1792];
-    start(&mut out, 1, &mut image, &mut space, 28, 2);
+    start(&mut out, 1, &mut image, &mut space, FINE);
     cases_1_to_4(&mut out, &mut space);
     cases_5_and_6(&mut out, &mut space);
     case_7(&mut out, &mut space);

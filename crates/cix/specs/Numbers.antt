@@ -1,15 +1,12 @@
 -- An answer as one number of 64 bits: the upper half says what it is, 0 done, 1 cut, 2 refused; the lower half has its count, its stores or its refusal.
-use Rattle.std.specs.Prelude.{◌≡◌, ℕ, ◌+◌, ◌<◌, leb, length, take}
+use Rattle.std.specs.Prelude.{◌≡◌, ℕ, ◌+◌, ◌<◌, leb, length, take, Ok, Err}
 use Rattle.std.proofs.Common.{arith, length-take}
 use Rattle.wire.specs.Cases.{by_test}
+use Rattle.refusals.specs.Rules.{Answer, number_of}
 use Rattle.records.specs.declared.Record.{Record}
-use Rattle.image_log.specs.declared.Outcome.{Outcome}
-use Rattle.image_log.specs.declared.Outcome.TheVariants.{Done, Cut, Refused}
-use Rattle.image_log.specs.Calls.{Plan, refuse, store, answer}
-use Rattle.home.specs.declared.Answer.{Answer}
-use Rattle.home.specs.declared.Answer.TheVariants.{Count, Refused as NotEdited}
-use Rattle.index.specs.declared.Begun.{Begun}
-use Rattle.index.specs.declared.Begun.TheVariants.{Done as Copied, Refused as NotBegun}
+use Rattle.image_log.specs.declared.Stored.TheVariants.{Done, Cut}
+use Rattle.image_log.specs.Calls.{Outcome, Plan, refuse, store, answer}
+use Rattle.index.specs.Calls.{Begun}
 
 -- 1 and 2 in the upper half
 abbrev pub cut : ℕ → ℕ
@@ -19,17 +16,17 @@ abbrev pub refused : ℕ → ℕ
 refused r = 8589934592 + r
 
 unfoldable pub of_answer : Answer → ℕ
-of_answer (Count n) = n
-of_answer (NotEdited r) = refused r
+of_answer (Ok n) = n
+of_answer (Err r) = refused (number_of r)
 
 unfoldable pub of_begun : Begun → ℕ
-of_begun Copied = 0
-of_begun (NotBegun r) = refused r
+of_begun (Ok u) = 0
+of_begun (Err r) = refused (number_of r)
 
 unfoldable pub of_outcome : Outcome → ℕ
-of_outcome (Done n) = n
-of_outcome (Cut n) = cut n
-of_outcome (Refused r) = refused r
+of_outcome (Ok (Done n)) = n
+of_outcome (Ok (Cut n)) = cut n
+of_outcome (Err r) = refused (number_of r)
 
 -- a record from its four numbers
 abbrev pub call : ℕ → ℕ → ℕ → ℕ → Record
@@ -37,11 +34,11 @@ call l s p m = record { level = l; second = s; phone = p; minutes = m }
 
 -- the stores that an outcome tells of fit the lower half
 unfoldable pub Fits : Outcome → Type 0
-Fits (Done n) = n < 4294967296
-Fits (Cut n) = n < 4294967296
-Fits (Refused r) = 0 < 1
+Fits (Ok (Done n)) = n < 4294967296
+Fits (Ok (Cut n)) = n < 4294967296
+Fits (Err r) = 0 < 1
 
-pub fits_cut : (o : Outcome) (n : ℕ) → o ≡ Cut n → Fits o → n < 4294967296
+pub fits_cut : (o : Outcome) (n : ℕ) → o ≡ Ok (Cut n) → Fits o → n < 4294967296
 unfolding Fits
 fits_cut o n e f = rw e at f
 
@@ -52,3 +49,6 @@ answer-fits (refuse r) n b = omega arith
 answer-fits (store ss) n b =
     let few : length (take n ss) < 4294967296 = rw (length-take n ss) (omega arith) in
     by_test (leb (length ss) n) (λ e. rw e few) (λ e. rw e few)
+
+-- what a call that stores answers
+pub ruleset stores_fit = (answer-fits)

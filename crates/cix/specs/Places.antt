@@ -1,8 +1,8 @@
 -- Where a tag's records lie in the lent bytes: a place and a length as one number, 32 bits each.
-use Rattle.std.specs.Prelude.{List, ℕ, ◌+◌, ◌*◌, length}
-use Rattle.wire.specs.Rules.{first}
-use Rattle.home.specs.declared.lookup.TagBlock.{TagBlock}
-use Rattle.home.specs.declared.lookup.TagBlock.TheVariants.{Known, Unknown}
+use Rattle.std.specs.Prelude.{List, ℕ, ◌+◌, ◌*◌, length, Some, None}
+use Rattle.std.specs.declared.option.Option.{Option}
+use Rattle.refusals.specs.Rules.{first}
+use Rattle.home.specs.declared.lookup.Block.{Block}
 use Rattle.home.specs.Bytes.{list_at}
 use Rattle.home.specs.Lookup.{block_of}
 use Rattle.gates.specs.declared.Of.{Of}
@@ -10,9 +10,9 @@ use Rattle.gates.specs.Gates.{gate_rules, home_in, home_from}
 use Rattle.reads.specs.Reads.{show_in}
 
 -- behind a block's header, in a home that begins at an offset; 0 for an unknown tag
-unfoldable pub place_at : ℕ → TagBlock → ℕ
-place_at at (Known p n) = at + list_at p
-place_at at Unknown = 0
+unfoldable pub place_at : ℕ → Option Block → ℕ
+place_at at (Some b) = at + list_at b.cell
+place_at at None = 0
 
 -- 0 on refusal
 unfoldable pub place_in : Of → List ℕ → ℕ → ℕ

@@ -1,19 +1,20 @@
 -- The bytes at a span are those shown, and lie inside the lent ones.
-use Rattle.std.specs.Prelude.{◌≡◌, true, ◌≢◌, ℕ, ◌+◌, ◌*◌, ◌-◌, ◌≤◌, ◌<◌, length, drop}
+use Rattle.std.specs.Prelude.{◌≡◌, true, ◌≢◌, ℕ, ◌+◌, ◌*◌, ◌-◌, ◌≤◌, ◌<◌, length, drop, Some, None}
+use Rattle.std.specs.declared.option.Option.{Option}
 use Rattle.std.proofs.Math.Path.{refl, ap}
 use Rattle.std.proofs.Common.{sym, ◌∙◌, arith, drop-drop, get_or-drop}
 use mathlib.Core.List.{List, []}
 use Rattle.std.proofs.Math.Option.{none, some}
 use Rattle.wire.specs.Bytes.{part, Bytes}
 use Rattle.wire.specs.BytesLaws.{part_of}
-use Rattle.wire.specs.Rules.{refusal}
-use Rattle.wire.specs.RulesLaws.{by_refusal, first-refused, first_passed}
+use Rattle.refusals.specs.declared.Refusal.{Refusal}
+use Rattle.refusals.specs.Rules.{refusal}
+use Rattle.refusals.specs.RulesLaws.{by_refusal, first-refused, first_passed}
 use Rattle.records.specs.Records.{encode}
 use Rattle.records.specs.Edits.{length-encode}
 use Rattle.redo.specs.Image.{home}
 use Rattle.redo.specs.ImageLaws.{Right, head_right, length-home}
-use Rattle.home.specs.declared.lookup.TagBlock.{TagBlock}
-use Rattle.home.specs.declared.lookup.TagBlock.TheVariants.{Known, Unknown}
+use Rattle.home.specs.declared.lookup.Block.{Block}
 use Rattle.home.specs.Bytes.{list_at}
 use Rattle.home.specs.Lookup.{block_of, offset_of}
 use Rattle.home.specs.LookupLaws.{sound-short}
@@ -38,24 +39,24 @@ lies : (l : List ℕ) (at : ℕ) (h : List ℕ) (t : ℕ) → Bytes h → sound 
 unfolding place_at part encode
 lies l at h t b s e k = go (block_of h t) refl
   where
-    go : (x : TagBlock) → block_of h t ≡ x → Lies l at h t
-    go (Known p n) f =
-        let y : ListAt h t p n = list_at_lem h t p n s f in
-        let q : drop (at + list_at p) l ≡ drop (list_at p) h = sym (drop-drop (list_at p) at l) ∙ ap (drop (list_at p)) (sym e) in
+    go : (x : Option Block) → block_of h t ≡ x → Lies l at h t
+    go (Some x) f =
+        let y : ListAt h t x.cell x.count = list_at_lem h t x.cell x.count s f in
+        let q : drop (at + list_at x.cell) l ≡ drop (list_at x.cell) h = sym (drop-drop (list_at x.cell) at l) ∙ ap (drop (list_at x.cell)) (sym e) in
         record {
           inside = rw (f, ← y.count) (omega (arith, y.inside));
-          bytes = rw (f, ← y.count, q) (sym (part_of h (list_at p) (8 * n)) ∙ list-at_bytes h t p n b y);
+          bytes = rw (f, ← y.count, q) (sym (part_of h (list_at x.cell) (8 * x.count)) ∙ list-at_bytes h t x.cell x.count b y);
         }
-    go Unknown f =
+    go None f =
         let y : list_of h t ≡ [] = list-none h t s f in
         record { inside = rw (f, y) (omega arith); bytes = rw (f, y) refl }
 
 pub list-short : (h : List ℕ) (t : ℕ) → sound h ≡ true → length (list_of h t) < 10000
 list-short h t s = go (block_of h t) refl
   where
-    go : (x : TagBlock) → block_of h t ≡ x → length (list_of h t) < 10000
-    go (Known p n) f = let y : ListAt h t p n = list_at_lem h t p n s f in omega (arith, y.inside, y.count, y.short)
-    go Unknown f = rw (list-none h t s f) (omega arith)
+    go : (x : Option Block) → block_of h t ≡ x → length (list_of h t) < 10000
+    go (Some b) f = let y : ListAt h t b.cell b.count = list_at_lem h t b.cell b.count s f in omega (arith, y.inside, y.count, y.short)
+    go None f = rw (list-none h t s f) (omega arith)
 
 -- ---- home in what is lent
 
@@ -81,27 +82,27 @@ module _ (of : Of) (bs : List ℕ) (t : ℕ) where
     lent_long : home_from of bs ≡ length bs - length h
     lent_long = omega (arith, (lent of bs p).long, ap length same)
 
-    pub span_room : (q n : ℕ) → block_of h t ≡ Known q n → (length bs - length h + list_at q < 1000000) × (n < 1000000)
-    span_room q n b =
-        let y : ListAt h t q n = list_at_lem h t q n (ap sound same ∙ home_fine of bs p) b in
+    pub span_room : (b : Block) → block_of h t ≡ Some b → (length bs - length h + list_at b.cell < 1000000) × (b.count < 1000000)
+    span_room b e =
+        let y : ListAt h t b.cell b.count = list_at_lem h t b.cell b.count (ap sound same ∙ home_fine of bs p) e in
         (omega (arith, lent_long, (lent of bs p).near, y.inside, y.short), omega (arith, y.inside, y.short))
 
-    pub span_known : (q n r : ℕ) → block_of h t ≡ Known q n → r ≡ (length bs - length h + list_at q) * 4294967296 + 8 * n → r ≡ span_in of bs t
+    pub span_known : (b : Block) (r : ℕ) → block_of h t ≡ Some b → r ≡ (length bs - length h + list_at b.cell) * 4294967296 + 8 * b.count → r ≡ span_in of bs t
     unfolding span_in place_in place_at
-    span_known q n r b e =
-        let known : block_of (home_in of bs) t ≡ Known q n = ap (λ (x : List ℕ). block_of x t) (sym same) ∙ b in
-        let y : ListAt (home_in of bs) t q n = list_at_lem (home_in of bs) t q n (home_fine of bs p) known in
-        e ∙ rw (← lent_long, first_passed (λ m. 0) (gate_rules of bs) (place_at (home_from of bs) (block_of (home_in of bs) t)) p, known, show_open of bs t p, length-encode (list_in of bs t), ← y.count) refl
+    span_known b r f e =
+        let found : block_of (home_in of bs) t ≡ Some b = ap (λ (x : List ℕ). block_of x t) (sym same) ∙ f in
+        let y : ListAt (home_in of bs) t b.cell b.count = list_at_lem (home_in of bs) t b.cell b.count (home_fine of bs p) found in
+        e ∙ rw (← lent_long, first_passed (λ m. 0) (gate_rules of bs) (place_at (home_from of bs) (block_of (home_in of bs) t)) p, found, show_open of bs t p, length-encode (list_in of bs t), ← y.count) refl
 
-    pub span_unknown : block_of h t ≡ Unknown → 0 ≡ span_in of bs t
+    pub span_unknown : block_of h t ≡ None → 0 ≡ span_in of bs t
     unfolding span_in place_in place_at encode
     span_unknown b =
-        let unknown : block_of (home_in of bs) t ≡ Unknown = ap (λ (x : List ℕ). block_of x t) (sym same) ∙ b in
+        let unknown : block_of (home_in of bs) t ≡ None = ap (λ (x : List ℕ). block_of x t) (sym same) ∙ b in
         rw (first_passed (λ m. 0) (gate_rules of bs) (place_at (home_from of bs) (block_of (home_in of bs) t)) p, unknown, show_open of bs t p, list-none (home_in of bs) t (home_fine of bs p) unknown) refl
 
-  pub span_refused : (n : ℕ) → refusal (gate_rules of bs) ≡ some n → 0 ≡ span_in of bs t
+  pub span_refused : (r : Refusal) → refusal (gate_rules of bs) ≡ some r → 0 ≡ span_in of bs t
   unfolding span_in place_in
-  span_refused n e = rw (first-refused (λ m. 0) (gate_rules of bs) n (place_at (home_from of bs) (block_of (home_in of bs) t)) e, show_refused of bs t n e) refl
+  span_refused r e = rw (first-refused (λ m. 0) (gate_rules of bs) r (place_at (home_from of bs) (block_of (home_in of bs) t)) e, show_refused of bs t r e) refl
 
 -- ---- the theorem: the bytes at the place are those shown, and place and length fit 32 bits
 
@@ -135,6 +136,6 @@ place_shown of bs t some-listed = by_refusal (gate_rules of bs)
     (λ n e. first-refused (λ m. 0) (gate_rules of bs) n (place_at (home_from of bs) (block_of (home_in of bs) t)) e ∙ sym (show_nowhere of bs t n e))
     (λ e. first_passed (λ m. 0) (gate_rules of bs) (place_at (home_from of bs) (block_of (home_in of bs) t)) e ∙ go e (block_of (home_in of bs) t) refl ∙ sym (show_from_lem of bs t e))
   where
-    go : refusal (gate_rules of bs) ≡ none → (x : TagBlock) → block_of (home_in of bs) t ≡ x → place_at (home_from of bs) x ≡ home_from of bs + offset_of (home_in of bs) t
-    go e (Known p n) q = ap (λ (o : ℕ). home_from of bs + o) (sym (offset_known (home_in of bs) t p n q))
-    go e Unknown q = absurd (some-listed (list-none (home_in of bs) t (home_fine of bs e) q))
+    go : refusal (gate_rules of bs) ≡ none → (x : Option Block) → block_of (home_in of bs) t ≡ x → place_at (home_from of bs) x ≡ home_from of bs + offset_of (home_in of bs) t
+    go e (Some b) q = ap (λ (o : ℕ). home_from of bs + o) (sym (offset_known (home_in of bs) t b.cell b.count q))
+    go e None q = absurd (some-listed (list-none (home_in of bs) t (home_fine of bs e) q))

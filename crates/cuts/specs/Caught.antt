@@ -1,14 +1,14 @@
 -- Computed examples of lists of calls with a byte caught: L = 1, R = 1, a commit of one page, 134 stores, the mark's the 69th and the last.
-use Rattle.std.specs.Prelude.{◌≡◌, refl, true, ℕ, ◌*◌, List, [], ◌∷◌, map, set, get_or, replicate}
+use Rattle.std.specs.Prelude.{◌≡◌, refl, true, ℕ, ◌*◌, List, [], ◌∷◌, map, set, get_or, replicate, Ok, Err}
 use Rattle.wire.specs.Bytes.{zeros_but, over, equal, part, get16, bytes16, blank}
-use Rattle.wire.specs.Rules.{first}
+use Rattle.refusals.specs.declared.Refusal.TheVariants.{Unrecovered}
+use Rattle.refusals.specs.Rules.{first}
 use Rattle.redo.specs.Store.{apply, run, halfway}
 use Rattle.redo.specs.Image.{letters, mark, home, in_range, head_ok, head_page, empty_image}
 use Rattle.redo.specs.Entry.{entry, entries, rising, changes, logged, replay}
 use Rattle.redo.specs.Stores.{clear_mark, recover_stores, log_stores, commit_stores}
-use Rattle.image_log.specs.declared.Outcome.{Outcome}
-use Rattle.image_log.specs.declared.Outcome.TheVariants.{Done, Cut, Refused}
-use Rattle.image_log.specs.Calls.{answer, after, log_ok, recover_rules, recover_plan, commit_rules, commit_plan, any_bytes}
+use Rattle.image_log.specs.declared.Stored.TheVariants.{Done, Cut}
+use Rattle.image_log.specs.Calls.{Outcome, answer, after, log_ok, recover_rules, recover_plan, commit_rules, commit_plan, any_bytes}
 use Rattle.image_log.specs.Book.{Call, commit, recover, allowance, value, plan_of, rest, caught, Seen, seen, trace, final, Book, start, differing, book_rules, judge, commit_need, need_by, recover_need, report, answer_to, logs, told_mark, recovering, committing, book_at, foretold, next, book_after}
 
 image : List ℕ
@@ -62,18 +62,18 @@ examples :
     × (equal (book set165).kept one ≡ true)
     × (equal (home (ends set165)) (home image) ≡ true)
     × (equal (found (ends set165)) one ≡ true)
-    × (said (commit one 68 165 ∷ recover 64 165 ∷ recover 65 0 ∷ []) ≡ Cut 68 ∷ Cut 64 ∷ Done 65 ∷ [])
+    × (said (commit one 68 165 ∷ recover 64 165 ∷ recover 65 0 ∷ []) ≡ Ok (Cut 68) ∷ Ok (Cut 64) ∷ Ok (Done 65) ∷ [])
     -- 9: the old index, 3, and one store
     × (mark (ends set9) ≡ 9)
     × ((book set9).owed ≡ 0)
     × (equal (book set9).kept (home image) ≡ true)
     × (equal (found (ends set9)) (home image) ≡ true)
-    × (said (commit one 68 9 ∷ commit one 500 0 ∷ recover 0 9 ∷ recover 1 0 ∷ commit one 500 0 ∷ []) ≡ Cut 68 ∷ Refused 3 ∷ Cut 0 ∷ Done 1 ∷ Done 134 ∷ [])
+    × (said (commit one 68 9 ∷ commit one 500 0 ∷ recover 0 9 ∷ recover 1 0 ∷ commit one 500 0 ∷ []) ≡ Ok (Cut 68) ∷ Err Unrecovered ∷ Ok (Cut 0) ∷ Ok (Done 1) ∷ Ok (Done 134) ∷ [])
     -- 0: the old index at once
-    × (said (commit one 68 0 ∷ recover 0 0 ∷ commit one 134 0 ∷ []) ≡ Cut 68 ∷ Done 0 ∷ Done 134 ∷ [])
+    × (said (commit one 68 0 ∷ recover 0 0 ∷ commit one 134 0 ∷ []) ≡ Ok (Cut 68) ∷ Ok (Done 0) ∷ Ok (Done 134) ∷ [])
     × (equal (home (ends set0)) (home image) ≡ true)
     -- a recovery's one store caught with 165 brings the logged index back, and the last store of that one's recovery spoils the mark again
-    × (said through9 ≡ Cut 68 ∷ Cut 0 ∷ Cut 64 ∷ [])
+    × (said through9 ≡ Ok (Cut 68) ∷ Ok (Cut 0) ∷ Ok (Cut 64) ∷ [])
     × (mark (ends through9) ≡ 9)
     × (equal (home (ends through9)) one ≡ true)
     × (equal (book through9).kept one ≡ true)
@@ -84,9 +84,9 @@ examples :
     × (equal (home (ends last9)) one ≡ true)
     × (equal (found (ends last9)) one ≡ true)
     -- told 165 there, it is owed again; told 0 at any store of the mark, the next commit goes on
-    × (said (commit one 133 165 ∷ recover 65 0 ∷ []) ≡ Cut 133 ∷ Done 65 ∷ [])
-    × (said (commit one 133 0 ∷ clear) ≡ Cut 133 ∷ Done 134 ∷ [])
-    × (said (commit one 69 1 ∷ recover 64 0 ∷ clear) ≡ Cut 69 ∷ Cut 64 ∷ Done 134 ∷ [])
-    × (said (commit one 68 9 ∷ recover 0 0 ∷ commit one 134 0 ∷ []) ≡ Cut 68 ∷ Cut 0 ∷ Done 134 ∷ [])
+    × (said (commit one 133 165 ∷ recover 65 0 ∷ []) ≡ Ok (Cut 133) ∷ Ok (Done 65) ∷ [])
+    × (said (commit one 133 0 ∷ clear) ≡ Ok (Cut 133) ∷ Ok (Done 134) ∷ [])
+    × (said (commit one 69 1 ∷ recover 64 0 ∷ clear) ≡ Ok (Cut 69) ∷ Ok (Cut 64) ∷ Ok (Done 134) ∷ [])
+    × (said (commit one 68 9 ∷ recover 0 0 ∷ commit one 134 0 ∷ []) ≡ Ok (Cut 68) ∷ Ok (Cut 0) ∷ Ok (Done 134) ∷ [])
 unfolding clear ends said book found set165 set9 set0 through9 home77 last9 image one first answer after apply run letters home in_range head_ok entry entries rising changes logged replay head_page empty_image zeros_but clear_mark recover_stores log_ok recover_rules recover_plan log_stores commit_stores commit_rules commit_plan over equal part get16 bytes16 blank halfway allowance value plan_of rest caught seen trace final start differing book_rules judge commit_need need_by recover_need report answer_to logs told_mark recovering committing book_at foretold next book_after
 examples = (refl, refl, refl, refl, refl, refl, refl, refl, refl, refl, refl, refl, refl, refl, refl, refl, refl, refl, refl, refl, refl, refl, refl, refl, refl, refl)

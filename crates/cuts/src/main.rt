@@ -7,32 +7,26 @@
 
 ghost use Rattle.std.specs.Prelude.{◌<◌};
 
-use image_log::Outcome;
+use image_log::Stored;
 use std::io::Write;
 use std::rt::Stdout;
 
-fn is_done(o: Outcome) -> bool {
-    match o {
-        Outcome::Done(_) => true,
-        Outcome::Cut(_) => false,
-        Outcome::Refused(_) => false,
-    }
+// An image of 28 log entries and 2 record pages.
+type Image = [u8; 3704];
+
+// The home that the commit finds, and the one that it stores.
+#[derive(Clone, Copy)]
+struct Homes<'a> {
+    old: &'a [u8],
+    new: &'a [u8],
 }
 
-fn load(to: &mut [u8], from: &[u8]) {
-    if from.len() <= to.len() {
-        wire::copy(to, 0, from);
-    }
-}
-
-fn byte(s: &[u8], at: usize) -> u8 {
-    if at < s.len() { s[at] } else { 0 }
-}
-
-fn store(s: &mut [u8], at: usize, b: u8) {
-    if at < s.len() {
-        s[at] = b;
-    }
+// How often a recovery that finished found the old home, the new one, and anything else.
+#[derive(Clone, Copy, Debug, Default, PartialEq, Eq)]
+struct Ends {
+    old: usize,
+    new: usize,
+    other: usize,
 }
 
 // The pages in which the two homes differ.
@@ -47,18 +41,18 @@ fn page(j: usize) -> usize
 }
 
 // Where the commit's next store goes, n of its 394 made: the log, the count, the mark, home, the mark.
-fn next_store(n: usize) -> usize {
-    if n < 198 {
-        return 64 + n;
+fn next_store(n: usize) -> usize
+    ensures { result < 3704 }
+{
+    match n {
+        0..=197 => 64 + n,
+        198..=200 => n - 190,
+        201..=392 => {
+            let i = n - 201;
+            1912 + 64 * page(i / 64) + i % 64
+        },
+        _ => 10,
     }
-    if n < 201 {
-        return n - 190;
-    }
-    if n < 393 {
-        let i = n - 201;
-        return 1912 + 64 * page(i / 64) + i % 64;
-    }
-    10
 }
 
 // The five values that a byte caught may hold.
@@ -72,68 +66,18 @@ fn value(i: usize, stood: u8, meant: u8) -> u8 {
     }
 }
 
-// How often a recovery that finished found the old home, the new one, and anything else.
-#[derive(Clone, Copy)]
-struct Ends {
-    old: usize,
-    new: usize,
-    other: usize,
-}
-
-// One more; no count comes near the bound.
-fn more(n: usize) -> usize {
-    if n < 1000000000 { n + 1 } else { n }
-}
-
-fn finish(image: &mut [u8], old: &[u8], new: &[u8], ends: Ends) -> Ends {
-    let done = is_done(image_log::recover(image, 193));
+// A recovery with all its stores, counted by the home that it leaves.
+fn finish(image: &mut Image, homes: Homes, ends: &mut Ends) {
+    let done = matches!(image_log::recover(image, 193), Ok(Stored::Done(_)));
     let home = image_log::home(image);
-    if done && wire::equal(home, old) {
-        return Ends {
-            old: more(ends.old),
-            new: ends.new,
-            other: ends.other,
-        };
-    }
-    if done && wire::equal(home, new) {
-        return Ends {
-            old: ends.old,
-            new: more(ends.new),
-            other: ends.other,
-        };
-    }
-    Ends {
-        old: ends.old,
-        new: ends.new,
-        other: more(ends.other),
-    }
-}
-
-// Catches the byte at this offset: it holds one of the five values.
-fn catch(image: &mut [u8], at: usize, i: usize, meant: u8) {
-    let stood = byte(image, at);
-    store(image, at, value(i, stood, meant));
-}
-
-// A recovery cut at m stores, the byte of the next one caught, and then one that finishes.
-fn recovery_caught(
-    image: &[u8],
-    m: usize,
-    at: usize,
-    i: usize,
-    old: &[u8],
-    new: &[u8],
-    ends: Ends,
-) -> Ends
-    requires { m < 193 }
-{
-    let mut cut = [0u8; 3704];
-    load(&mut cut, image);
-    let mut whole = cut;
-    image_log::recover(&mut cut, m);
-    image_log::recover(&mut whole, m + 1);
-    catch(&mut cut, at, i, byte(&whole, at));
-    finish(&mut cut, old, new, ends)
+    let found = if done && home == homes.old {
+        &mut ends.old
+    } else if done && home == homes.new {
+        &mut ends.new
+    } else {
+        &mut ends.other
+    };
+    *found = found.saturating_add(1);
 }
 
 // The stores that a recovery makes, by the mark.
@@ -147,135 +91,112 @@ fn need(mark: u8) -> usize
     }
 }
 
+// A recovery cut at m stores, the byte of the next one caught, and then one that finishes.
+fn recovery_caught(image: &Image, m: usize, i: usize, homes: Homes, ends: &mut Ends)
+    requires { m < 193 }
+{
+    let at = next_store(394 - need(image[10]) + m);
+    let mut cut = *image;
+    let mut whole = *image;
+    let _ = image_log::recover(&mut cut, m);
+    let _ = image_log::recover(&mut whole, m + 1);
+    cut[at] = value(i, cut[at], whole[at]);
+    finish(&mut cut, homes, ends);
+}
+
 // Each cut of a recovery with each of the five values, and a recovery that is not cut.
-fn recoveries(image: &mut [u8], old: &[u8], new: &[u8], mut ends: Ends) -> Ends {
-    let stores = need(byte(image, 10));
-    let mut j = 0;
-    while j < 5 * stores {
-        let m = j / 5;
-        ends = recovery_caught(
-            image,
-            m,
-            next_store(394 - stores + m),
-            j % 5,
-            old,
-            new,
-            ends,
-        );
-        j += 1;
+fn recoveries(image: &mut Image, homes: Homes, ends: &mut Ends) {
+    for m in 0..need(image[10]) {
+        for i in 0..5 {
+            recovery_caught(image, m, i, homes, ends);
+        }
     }
-    finish(image, old, new, ends)
+    finish(image, homes, ends);
 }
 
 // An image whose home is the old one, after a commit of the new one cut at n stores.
-fn commit_cut(image: &mut [u8], old: &[u8], new: &[u8], n: usize) {
-    image_log::format(image, 28, 2, 0, 0, 10000);
-    image_log::commit(image, old, 10000);
-    image_log::commit(image, new, n);
+fn commit_cut(homes: Homes, n: usize) -> Image {
+    let mut image = [0u8; 3704];
+    let _ = image_log::format(&mut image, 28, 2, 0, 0, 10000);
+    let _ = image_log::commit(&mut image, homes.old, 10000);
+    let _ = image_log::commit(&mut image, homes.new, n);
+    image
 }
 
 // A commit cut at n stores, the byte of the next one caught, and then each recovery.
-fn commit_caught(n: usize, i: usize, old: &[u8], new: &[u8], ends: Ends) -> Ends
+fn commit_caught(n: usize, i: usize, homes: Homes, ends: &mut Ends)
     requires { n < 394 }
 {
-    let mut cut = [0u8; 3704];
-    let mut whole = cut;
-    commit_cut(&mut cut, old, new, n);
-    commit_cut(&mut whole, old, new, n + 1);
     let at = next_store(n);
-    catch(&mut cut, at, i, byte(&whole, at));
-    recoveries(&mut cut, old, new, ends)
+    let mut cut = commit_cut(homes, n);
+    let whole = commit_cut(homes, n + 1);
+    cut[at] = value(i, cut[at], whole[at]);
+    recoveries(&mut cut, homes, ends);
 }
 
-fn say(out: &mut Stdout, word: &[u8]) {
-    match out.write_all(word) {
-        Ok(_) => {},
-        Err(_) => {},
-    }
-}
-
-fn number(out: &mut Stdout, word: &[u8], n: usize) {
-    say(out, word);
-    match write!(out, "{n}") {
-        Ok(_) => {},
-        Err(_) => {},
-    }
-}
-
-fn line(out: &mut Stdout, word: &[u8], ends: Ends) {
-    say(out, word);
-    number(out, b": old ", ends.old);
-    number(out, b", new ", ends.new);
-    number(out, b", other ", ends.other);
-    say(out, b"\n");
+fn line(out: &mut Stdout, word: &str, ends: Ends) {
+    let _ = writeln!(
+        out,
+        "{word}: old {}, new {}, other {}",
+        ends.old, ends.new, ends.other
+    );
 }
 
 // Each cut of the commit from one number of stores up to another, with each of the five values.
-fn commits(out: &mut Stdout, word: &[u8], from: usize, to: usize, old: &[u8], new: &[u8])
-    requires { (from < 395) × (to < 395) }
+fn commits(out: &mut Stdout, word: &str, from: usize, to: usize, homes: Homes)
+    requires { to < 395 }
 {
-    let mut ends = Ends {
-        old: 0,
-        new: 0,
-        other: 0,
-    };
-    let mut j = 5 * from;
-    while j < 5 * to {
-        ends = commit_caught(j / 5, j % 5, old, new, ends);
-        j += 1;
+    let mut ends = Ends::default();
+    for n in from..to {
+        for i in 0..5 {
+            commit_caught(n, i, homes, &mut ends);
+        }
     }
     line(out, word, ends);
 }
 
 // The commit's two stores to the mark, a recovery's last and the one over a spoiled mark, caught with v.
-fn mark_caught(v: u8, old: &[u8], new: &[u8], ends: Ends) -> Ends {
-    let mut image = [0u8; 3704];
-    commit_cut(&mut image, old, new, 200);
-    store(&mut image, 10, v);
-    let a = recoveries(&mut image, old, new, ends);
-    commit_cut(&mut image, old, new, 393);
-    store(&mut image, 10, v);
-    let b = recoveries(&mut image, old, new, a);
-    commit_cut(&mut image, old, new, 201);
-    image_log::recover(&mut image, 192);
-    store(&mut image, 10, v);
-    let c = recoveries(&mut image, old, new, b);
-    commit_cut(&mut image, old, new, 200);
-    store(&mut image, 10, 9);
-    image_log::recover(&mut image, 0);
-    store(&mut image, 10, v);
-    recoveries(&mut image, old, new, c)
+fn mark_caught(v: u8, homes: Homes, ends: &mut Ends) {
+    let mut image = commit_cut(homes, 200);
+    image[10] = v;
+    recoveries(&mut image, homes, ends);
+    image = commit_cut(homes, 393);
+    image[10] = v;
+    recoveries(&mut image, homes, ends);
+    image = commit_cut(homes, 201);
+    let _ = image_log::recover(&mut image, 192);
+    image[10] = v;
+    recoveries(&mut image, homes, ends);
+    image = commit_cut(homes, 200);
+    image[10] = 9;
+    let _ = image_log::recover(&mut image, 0);
+    image[10] = v;
+    recoveries(&mut image, homes, ends);
 }
 
-fn every_value(out: &mut Stdout, old: &[u8], new: &[u8]) {
-    let mut ends = Ends {
-        old: 0,
-        new: 0,
-        other: 0,
-    };
-    let mut v = 0u8;
-    while v < 255 {
-        ends = mark_caught(v, old, new, ends);
-        v += 1;
+fn every_value(out: &mut Stdout, homes: Homes) {
+    let mut ends = Ends::default();
+    for v in 0..=255u8 {
+        mark_caught(v, homes, &mut ends);
     }
-    line(
-        out,
-        b"any value in the mark",
-        mark_caught(255, old, new, ends),
-    );
+    line(out, "any value in the mark", ends);
 }
 
 fn main(rt: HostRuntime) {
     let mut out = rt.stdout();
     let mut old = [0u8; 1792];
-    store(&mut old, 0, 3);
-    store(&mut old, 1791, 165);
+    old[0] = 3;
+    old[1791] = 165;
     let mut new = old;
-    store(&mut new, 63, 1);
-    store(&mut new, 128, 255);
-    store(&mut new, 1664, 7);
-    commits(&mut out, b"mark not begun", 0, 200, &old, &new);
-    commits(&mut out, b"mark caught", 200, 201, &old, &new);
-    commits(&mut out, b"mark stored", 201, 394, &old, &new);
-    every_value(&mut out, &old, &new);
+    new[63] = 1;
+    new[128] = 255;
+    new[1664] = 7;
+    let homes = Homes {
+        old: &old,
+        new: &new,
+    };
+    commits(&mut out, "mark not begun", 0, 200, homes);
+    commits(&mut out, "mark caught", 200, 201, homes);
+    commits(&mut out, "mark stored", 201, 394, homes);
+    every_value(&mut out, homes);
 }

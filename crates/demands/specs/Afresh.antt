@@ -1,13 +1,13 @@
 -- A put that is laid out afresh: the layout that it leaves, and a switch-off during its commit.
-use Rattle.std.specs.Prelude.{◌≡◌, refl, true, ◌≢◌, ℕ, ◌*◌, ◌<◌, length}
+use Rattle.std.specs.Prelude.{◌≡◌, refl, true, ◌≢◌, ℕ, ◌*◌, ◌<◌, length, Ok, Err}
 use Rattle.std.proofs.Math.Path.{sym, ap, subst}
 use Rattle.std.proofs.Common.{◌∙◌, ⊎_elim, arith}
 use Rattle.std.proofs.Math.Option.{Option, none, some}
 use mathlib.Core.List.{List, ◌∷◌, ◌++◌}
 use Rattle.wire.specs.All.{All}
 use Rattle.wire.specs.Cases.{never}
-use Rattle.wire.specs.Rules.{Rule, Ruled, answered, left}
-use Rattle.wire.specs.RulesLaws.{unrefused, passes_both, first_passed}
+use Rattle.refusals.specs.Rules.{Rule, Ruled, answered, left, Answer}
+use Rattle.refusals.specs.RulesLaws.{unrefused, passes_both, first_passed}
 use Rattle.records.specs.declared.Record.{Record}
 use Rattle.records.specs.Records.{Fits, insert}
 use Rattle.redo.specs.Store.{Store}
@@ -27,8 +27,6 @@ use Rattle.layout.specs.Afresh.{by_class, behind, Gapless, just_before}
 use Rattle.layout.proofs.AfreshLaws.{settle-afresh, change_settles}
 use Rattle.home.specs.Bytes.{step_of, encode, decode}
 use Rattle.home.specs.Sound.{sound, pages_of, list_of}
-use Rattle.home.specs.declared.Answer.{Answer}
-use Rattle.home.specs.declared.Answer.TheVariants.{Count, Refused}
 use Rattle.home.specs.SoundLaws.{sound-valid}
 use Rattle.edits.specs.declared.Terminal.{Terminal}
 use Rattle.edits.specs.Edits.{limit_of, full_of, put_in}
@@ -57,7 +55,7 @@ pub record Afresh (by : Terminal) (h : List ℕ) (t : ℕ) (r : Record) : Type 0
   pub tag : t < 4294967296
   pub fits : Fits r
   pub count : ℕ
-  pub done : answered Refused (put_call by h t r) ≡ Count count
+  pub done : answered Err (put_call by h t r) ≡ Ok count
   pub leaves : has_tag t (blocks (decode h)) ≡ true → class_of (step_of h) (length (list_of h t)) ≢ class_with h t r
   pub none : place (cells (step_of h)) (8 * pages_of h) 0 0 (class_with h t r) (block_with h t r) (just_before (cells (step_of h)) t (decode h)) ≡ none
 
@@ -74,7 +72,7 @@ unfolding put_call put settled list_of
 put_is by h t r k =
     let c : Ruled Answer = put_in by h t r in
     let gs : List Rule = gate_rules Space h in
-    let q = unrefused Refused (gs ++ c.rules) c.answer (Count k.count) (λ n e. let z : ◌≡◌ {A = ℕ} 0 1 = cc in omega arith) k.done in
+    let q = unrefused Err (gs ++ c.rules) c.answer (Ok k.count) (λ n e. cc) k.done in
     let p = passes_both gs c.rules q in
     let v = sound-valid h (space_open h p.0) in
     go (change (step_of h) (8 * pages_of h) t (insert r (list_of h t)) (decode h)) refl (put_fine (cells (step_of h)) (class_of (step_of h)) (rises (step_of h)) (8 * pages_of h) t (decode h) v k.tag (limit_of by) (full_of by) (limit_low by) r k.fits p.1).room (first_passed (λ n. h) (gs ++ c.rules) c.bytes q)

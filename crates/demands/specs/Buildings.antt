@@ -1,5 +1,6 @@
 -- A fair part of the tags: what 19 and 11 mean, and that on an index started empty a building with fewer than 8 tags is never turned away for tags.
-use Rattle.std.specs.Prelude.{◌≡◌, refl, Bool, true, false, not, ◌&&◌, ◌≢◌, ◌⊎◌, List, [], ◌∷◌, ℕ, suc, ◌+◌, ◌≤◌, ◌<◌, leb, length}
+use Rattle.refusals.specs.declared.Refusal.TheVariants.{BuildingFull, NoRoom, TagsFull}
+use Rattle.std.specs.Prelude.{◌≡◌, refl, Bool, true, false, not, ◌&&◌, ◌≢◌, ◌⊎◌, List, [], ◌∷◌, ℕ, suc, ◌+◌, ◌≤◌, ◌<◌, leb, length, Ok, Err}
 use Rattle.std.proofs.Common.{sym, ap, ◌∙◌, subst, arith, leb-true, leb-false, le-leb}
 use Rattle.std.proofs.lemmas.Bool.{lt-leb, not-true}
 use Rattle.wire.specs.All.{All, all_map}
@@ -14,8 +15,7 @@ use Rattle.layout.specs.Perm.{Perm, sum}
 use Rattle.layout.specs.PermLaws.{psym}
 use Rattle.layout.specs.Buildings.{building, up_to, owned, lack, reserve, building_full}
 use Rattle.layout.specs.BuildingsLaws.{tags-lack, full_reserve, full_perm, below-reserve, reserve_perm, reserve-below, reserve_above, reserve_more}
-use Rattle.home.specs.declared.Answer.{Answer}
-use Rattle.home.specs.declared.Answer.TheVariants.{Count, Refused}
+use Rattle.refusals.specs.Rules.{Answer}
 use Rattle.home.specs.Bytes.{decode, tags_of}
 use Rattle.home.specs.Sound.{sound, list_of}
 use Rattle.home.specs.TagsLaws.{tags_perm, tags-small, tags-many, tags_few, new_lacks, lacks_new, same_tags, one_more, no_tags}
@@ -64,13 +64,13 @@ pub record Broken (w : List ℕ) (t : ℕ) : Type 0 where
 
 module _ (by : Terminal) (w : List ℕ) (t : ℕ) (r : Record) where
   -- a put of either terminal is refused with 19 exactly there
-  pub crowded_refused : Crowded w t → answer_of (put by t r) w ≡ Refused 19
+  pub crowded_refused : Crowded w t → answer_of (put by t r) w ≡ Err BuildingFull
   crowded_refused c =
       let lacking = new_lacks w c.fine t c.new in
       let full : building_full t (tags (blocks (decode w))) ≡ true = full_is w c.fine t ∙ rw (le-leb 8 (owned (building t) (tags_of w)) c.many, le-leb 256 (reserve (tags_of w)) c.used) refl in
       part-refused by w t r (new_free by w t r c.fine lacking) (rw (lacking, full) refl)
 
-  pub refused_crowded : answer_of (put by t r) w ≡ Refused 19 → Crowded w t
+  pub refused_crowded : answer_of (put by t r) w ≡ Err BuildingFull → Crowded w t
   refused_crowded e =
       let o = refused-part by w t r e in
       let s : sound w ≡ true = o.0.fine in
@@ -84,13 +84,13 @@ module _ (by : Terminal) (w : List ℕ) (t : ℕ) (r : Record) where
       }
 
   -- and with 11 exactly here
-  pub broken_refused : Broken w t → answer_of (put by t r) w ≡ Refused 11
+  pub broken_refused : Broken w t → answer_of (put by t r) w ≡ Err TagsFull
   broken_refused c =
       let lacking = new_lacks w c.fine t c.new in
       entry-refused by w t r (new_free by w t r c.fine lacking) (rw (lacking, full_below w c.fine t c.few) refl)
       (rw (lacking, le-leb 256 (length (blocks (decode w))) (omega (arith, tags-many w c.fine, c.all))) refl)
 
-  pub refused_broken : t < 4294967296 → answer_of (put by t r) w ≡ Refused 11 → Broken w t
+  pub refused_broken : t < 4294967296 → answer_of (put by t r) w ≡ Err TagsFull → Broken w t
   refused_broken small e =
       let o = refused-entry by w t r e in
       let s : sound w ≡ true = o.0.fine in
@@ -115,16 +115,16 @@ empty_reserve w s f = ap reserve (no_tags w s f)
 
 module _ (by : Terminal) (w : List ℕ) (f : Fair w) (t : ℕ) (small : t < 4294967296) (r : Record) where
   -- "a building with fewer than 8 is never turned away for tags": the put is done, or there is no room
-  pub sure_of_eight : list_of w t ≡ [] → owned (building t) (tags_of w) < 8 → (answer_of (put by t r) w ≡ Count 1) ⊎ (answer_of (put by t r) w ≡ Refused 12)
+  pub sure_of_eight : list_of w t ≡ [] → owned (building t) (tags_of w) < 8 → (answer_of (put by t r) w ≡ Ok 1) ⊎ (answer_of (put by t r) w ≡ Err NoRoom)
   sure_of_eight new few =
       let s : sound w ≡ true = f.fine in
       let lacking = new_lacks w s t new in
       let room : length (blocks (decode w)) < 256 = omega (arith, tags-many w s, below-reserve t (tags_of w) small (tags-small w s) few, f.within) in
-      subst (λ (n : ℕ). (answer_of (put by t r) w ≡ Count (suc n)) ⊎ (answer_of (put by t r) w ≡ Refused 12)) (ap length new)
+      subst (λ (n : ℕ). (answer_of (put by t r) w ≡ Ok (suc n)) ⊎ (answer_of (put by t r) w ≡ Err NoRoom)) (ap length new)
       (by_room by w t r (new_free by w t r s lacking) (rw (lacking, full_below w s t few) refl) (rw (lacking, lt-leb 256 (length (blocks (decode w))) room) refl))
 
   -- and no put at all meets 11
-  pub never_eleven : answer_of (put by t r) w ≢ Refused 11
+  pub never_eleven : answer_of (put by t r) w ≢ Err TagsFull
   never_eleven e = omega (arith, f.within, (refused_broken by w t r small e).broken)
 
 -- ---- which every edit keeps
@@ -177,7 +177,7 @@ module _ (w w' : List ℕ) (t : ℕ) (rs : List Record) (n : ℕ) (d : Done w w'
       (λ f. omega (arith, alike (λ x. omega arith) (λ x. omega arith))))
 
 -- only a put adds a tag, and one that is done has met no 19
-adds_fair : (e : Edit) (w : List ℕ) (n : ℕ) → answer_of e w ≡ Count n → sound w ≡ true → list_of w (tag_of e) ≡ [] → 0 < length (list_by e (list_of w (tag_of e))) → building_full (tag_of e) (tags (blocks (decode w))) ≡ false
+adds_fair : (e : Edit) (w : List ℕ) (n : ℕ) → answer_of e w ≡ Ok n → sound w ≡ true → list_of w (tag_of e) ≡ [] → 0 < length (list_by e (list_of w (tag_of e))) → building_full (tag_of e) (tags (blocks (decode w))) ≡ false
 unfolding tag_of list_by remove amend
 adds_fair (put by t r) w n q s e g = rw (new_lacks w s t e) at (done_part by w t r n q)
 adds_fair (delete t k) w n q s e g = absurd (omega (arith, ap (λ (x : List Record). length (remove k x)) e))
@@ -195,8 +195,8 @@ pub fair_kept : (e : Edit) → Ranged e → (w : List ℕ) → Fair w → Fair (
 fair_kept e g w f = go (answer_of e w) refl (edit_effect e g w)
   where
     go : (a : Answer) → answer_of e w ≡ a → Effect w (made e w) (tag_of e) (list_by e (list_of w (tag_of e))) a → Fair (made e w)
-    go (Refused n) q d = subst Fair (sym d) f
-    go (Count n) q d = record {
+    go (Err n) q d = subst Fair (sym d) f
+    go (Ok n) q d = record {
       fine = d.fine;
       within = done_within w (made e w) (tag_of e) (list_by e (list_of w (tag_of e))) n d (ranged_tag e g) (adds_fair e w n q f.fine) f.within;
     }
@@ -207,8 +207,8 @@ fair_kept e g w f = go (answer_of e w) refl (edit_effect e g w)
 pub record Sure (v : Event) : Type 0 where
   pub fair : Fair v.space
   pub eight : (by : Terminal) (t : ℕ) (r : Record) → v.edit ≡ put by t r → list_of v.space t ≡ [] → owned (building t) (tags_of v.space) < 8
-      → (answer_of (put by t r) v.space ≡ Count 1) ⊎ (answer_of (put by t r) v.space ≡ Refused 12)
-  pub never : (by : Terminal) (t : ℕ) (r : Record) → v.edit ≡ put by t r → answer_of (put by t r) v.space ≢ Refused 11
+      → (answer_of (put by t r) v.space ≡ Ok 1) ⊎ (answer_of (put by t r) v.space ≡ Err NoRoom)
+  pub never : (by : Terminal) (t : ℕ) (r : Record) → v.edit ≡ put by t r → answer_of (put by t r) v.space ≢ Err TagsFull
 
 stays_fair : (v : Event) → Fair v.space → RangedIn v → Fair (made v.edit v.space)
 stays_fair v f g = fair_kept v.edit g v.space f

@@ -9,7 +9,7 @@ use mathlib.Core.List.{List, [], ◌∷◌}
 use borrow.Author.Tests.{eq-eqb}
 use Rattle.wire.specs.All.{All, more, all_head, all_tail}
 use Rattle.wire.specs.Cases.{by_eq, never}
-use Rattle.wire.specs.Rules.{refusal}
+use Rattle.refusals.specs.Rules.{refusal}
 use Rattle.records.specs.declared.Record.{Record}
 use Rattle.records.specs.Records.{Fits, key, before, rising}
 use Rattle.redo.specs.Image.{home}

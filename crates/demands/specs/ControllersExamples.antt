@@ -1,9 +1,9 @@
 -- A collection in two sequences, and what lies outside the claim, computed from the definitions that the calls' contracts cite.
-use Rattle.std.specs.Prelude.{◌≡◌, refl, true, false, List, [], ◌∷◌, ℕ, ◌<◌, replicate}
+use Rattle.std.specs.Prelude.{◌≡◌, refl, true, false, List, [], ◌∷◌, ℕ, ◌<◌, replicate, Ok}
 use Rattle.std.proofs.Common.{arith}
 use Rattle.wire.specs.All.{none as nothing, more}
 use Rattle.wire.specs.Bytes.{part, over, get16, get32, bytes16, bytes32, equal, blank}
-use Rattle.wire.specs.Rules.{first}
+use Rattle.refusals.specs.Rules.{first, Answer}
 use Rattle.records.specs.declared.Record.{Record}
 use Rattle.records.specs.Records.{Fits, key, look, insert, remove, amend, rising_from, bytes_of, record_at, records}
 use Rattle.layout.specs.Capacities.{capacity, cells, class_of}
@@ -16,8 +16,6 @@ use Rattle.layout.specs.Valid.{valid}
 use Rattle.layout.specs.Edits.{put as put_by, delete as delete_by, set_minutes as set_by, drop_tag as drop_by}
 use Rattle.home.specs.Bytes.{spots, encode, decode, zones_from}
 use Rattle.home.specs.Sound.{sound, sized, list_of}
-use Rattle.home.specs.declared.Answer.{Answer}
-use Rattle.home.specs.declared.Answer.TheVariants.{Count}
 use Rattle.moves.specs.Stored.{settled}
 use Rattle.edits.specs.declared.Terminal.TheVariants.{Desk}
 use Rattle.edits.specs.Edits.{limit_of, full_of}
@@ -105,11 +103,11 @@ not_covered m = refl
 
 -- No sequence meets a refusal. Those of the collection end with the lower phone on top, the one put later or the one put first;
 -- a put before a drop ends with no call of the tag, and behind it with one; and the minutes are those set last.
-cases : (ends some one ≡ (Count 2 ∷ Count 3 ∷ Count 2 ∷ Count 0 ∷ [], call 2 60 ∷ call 9 3 ∷ [], []))
-    × (ends again other ≡ (Count 0 ∷ Count 0 ∷ Count 1 ∷ Count 2 ∷ [], call 2 60 ∷ call 9 3 ∷ [], []))
-    × (ends (new ∷ drop_tag 7 ∷ []) one ≡ (Count 2 ∷ Count 0 ∷ [], [], call 8 0 ∷ []))
-    × (ends (drop_tag 7 ∷ new ∷ []) one ≡ (Count 0 ∷ Count 1 ∷ [], call 4 9 ∷ [], call 8 0 ∷ []))
-    × (ends (minutes 1 ∷ minutes 2 ∷ []) one ≡ (Count 1 ∷ Count 1 ∷ [], call 3 2 ∷ [], call 8 0 ∷ []))
-    × (ends (minutes 2 ∷ minutes 1 ∷ []) one ≡ (Count 1 ∷ Count 1 ∷ [], call 3 1 ∷ [], call 8 0 ∷ []))
+cases : (ends some one ≡ (Ok 2 ∷ Ok 3 ∷ Ok 2 ∷ Ok 0 ∷ [], call 2 60 ∷ call 9 3 ∷ [], []))
+    × (ends again other ≡ (Ok 0 ∷ Ok 0 ∷ Ok 1 ∷ Ok 2 ∷ [], call 2 60 ∷ call 9 3 ∷ [], []))
+    × (ends (new ∷ drop_tag 7 ∷ []) one ≡ (Ok 2 ∷ Ok 0 ∷ [], [], call 8 0 ∷ []))
+    × (ends (drop_tag 7 ∷ new ∷ []) one ≡ (Ok 0 ∷ Ok 1 ∷ [], call 4 9 ∷ [], call 8 0 ∷ []))
+    × (ends (minutes 1 ∷ minutes 2 ∷ []) one ≡ (Ok 1 ∷ Ok 1 ∷ [], call 3 2 ∷ [], call 8 0 ∷ []))
+    × (ends (minutes 2 ∷ minutes 1 ∷ []) one ≡ (Ok 1 ∷ Ok 1 ∷ [], call 3 1 ∷ [], call 8 0 ∷ []))
 unfolding ends some again high low gone cleared new minutes one other seven nine answers call events through edit_call put_call delete_call set_call drop_call limit_of full_of gate_rules first sized sound list_of valid decode zones_from encode spots settled put_by delete_by set_by drop_by building_full total_after change settle place take_out rewritten has_tag find blocks class_of capacity cells key look insert remove amend rising_from bytes_of record_at records part over get16 get32 bytes16 bytes32 equal blank
 cases = (refl, refl, refl, refl, refl, refl)

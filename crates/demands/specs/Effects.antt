@@ -1,16 +1,14 @@
 -- Demand 2 for the edits: an edit changes the named tag's list as said, and every other tag reads as before.
-use Rattle.std.specs.Prelude.{◌≡◌, refl, ◌≢◌, List, [], ◌++◌, ℕ, ◌*◌, ◌<◌, length}
+use Rattle.std.specs.Prelude.{◌≡◌, refl, ◌≢◌, List, [], ◌++◌, ℕ, ◌*◌, ◌<◌, length, Ok, Err}
 use Rattle.std.proofs.Math.Path.{sym}
 use Rattle.std.proofs.Common.{◌∙◌}
 use Rattle.std.proofs.Math.Bool.{true}
 use Rattle.std.proofs.Math.Option.{Option, none, some}
 use Rattle.wire.specs.Cases.{never}
-use Rattle.wire.specs.Rules.{Rule, refusal, Ruled, answered, left, behind}
-use Rattle.wire.specs.RulesLaws.{by_refusal, passes_both, first-refused, first_passed}
+use Rattle.refusals.specs.Rules.{Rule, refusal, Ruled, answered, left, behind, Answer}
+use Rattle.refusals.specs.RulesLaws.{by_refusal, passes_both, first-refused, first_passed}
 use Rattle.records.specs.declared.Record.{Record}
 use Rattle.records.specs.Records.{Fits, insert, remove, amend}
-use Rattle.home.specs.declared.Answer.{Answer}
-use Rattle.home.specs.declared.Answer.TheVariants.{Count, Refused}
 use Rattle.layout.specs.Capacities.{cells, class_of}
 use Rattle.layout.specs.Zones.{Zone}
 use Rattle.home.specs.Layout.{change}
@@ -46,8 +44,8 @@ pub record Done (w w' : List ℕ) (t : ℕ) (rs : List Record) (n : ℕ) : Type 
 
 -- a refused one changes no lent byte
 abbrev pub Effect : List ℕ → List ℕ → ℕ → List Record → Answer → Type 0
-Effect w w' t rs (Count n) = Done w w' t rs n
-Effect w w' t rs (Refused n) = w' ≡ w
+Effect w w' t rs (Ok n) = Done w w' t rs n
+Effect w w' t rs (Err n) = w' ≡ w
 
 module _ (w : List ℕ) (t : ℕ) (small : t < 4294967296) where
   abbrev Makes : sound w ≡ true → List Record → Type 0
@@ -71,10 +69,10 @@ module _ (w : List ℕ) (t : ℕ) (small : t < 4294967296) where
 
   -- behind the rules of a workspace
   effect : (e : EditBy) → ((s : sound w ≡ true) → refusal e.rules ≡ none → Makes s e.list)
-      → Effect w (left (behind (gate_rules Space w) (edited w t e)) w) t e.list (answered Refused (behind (gate_rules Space w) (edited w t e)))
+      → Effect w (left (behind (gate_rules Space w) (edited w t e)) w) t e.list (answered Err (behind (gate_rules Space w) (edited w t e)))
   effect e f = by_refusal rs
-      (λ n q. rw (first-refused Refused rs n c.answer q, first-refused (λ m. w) rs n c.bytes q) refl)
-      (λ q. rw (first_passed Refused rs c.answer q, first_passed (λ m. w) rs c.bytes q)
+      (λ n q. rw (first-refused Err rs n c.answer q, first-refused (λ m. w) rs n c.bytes q) refl)
+      (λ q. rw (first_passed Err rs c.answer q, first_passed (λ m. w) rs c.bytes q)
       (let p = passes_both (gate_rules Space w) e.rules q in let s = space_open w p.0 in makes_done s e.list (f s p.1)))
     where
       c : Ruled Answer
@@ -83,19 +81,19 @@ module _ (w : List ℕ) (t : ℕ) (small : t < 4294967296) where
       rs : List Rule
       rs = gate_rules Space w ++ e.rules
 
-  pub put_effect : (by : Terminal) (r : Record) → Fits r → Effect w (left (put_call by w t r) w) t (insert r (list_of w t)) (answered Refused (put_call by w t r))
+  pub put_effect : (by : Terminal) (r : Record) → Fits r → Effect w (left (put_call by w t r) w) t (insert r (list_of w t)) (answered Err (put_call by w t r))
   unfolding put_call put_by list_of
   put_effect by r f = effect (put_of by w t r) (λ s q. put_fine (cells (step_of w)) (class_of (step_of w)) (rises (step_of w)) (8 * pages_of w) t (decode w) (sound-valid w s) small (limit_of by) (full_of by) (limit_low by) r f q)
 
-  pub delete_effect : (k : ℕ) → Effect w (left (delete_call w t k) w) t (remove k (list_of w t)) (answered Refused (delete_call w t k))
+  pub delete_effect : (k : ℕ) → Effect w (left (delete_call w t k) w) t (remove k (list_of w t)) (answered Err (delete_call w t k))
   unfolding delete_call delete_by list_of
   delete_effect k = effect (delete_by t k (decode w)) (λ s q. delete_fine (cells (step_of w)) (class_of (step_of w)) (rises (step_of w)) (8 * pages_of w) t (decode w) (sound-valid w s) small k q)
 
-  pub set_effect : (k m : ℕ) → m < 256 → Effect w (left (set_call w t k m) w) t (amend k m (list_of w t)) (answered Refused (set_call w t k m))
+  pub set_effect : (k m : ℕ) → m < 256 → Effect w (left (set_call w t k m) w) t (amend k m (list_of w t)) (answered Err (set_call w t k m))
   unfolding set_call set_by list_of
   set_effect k m g = effect (set_by t k m (decode w)) (λ s q. set_fine (cells (step_of w)) (class_of (step_of w)) (rises (step_of w)) (8 * pages_of w) t (decode w) (sound-valid w s) small k m g q)
 
-  pub drop_effect : Effect w (left (drop_call w t) w) t [] (answered Refused (drop_call w t))
+  pub drop_effect : Effect w (left (drop_call w t) w) t [] (answered Err (drop_call w t))
   unfolding drop_call drop_by
   drop_effect = effect (drop_by t (decode w)) (λ s q. drop_fine (cells (step_of w)) (class_of (step_of w)) (rises (step_of w)) (8 * pages_of w) t (decode w) (sound-valid w s) small q)
 

@@ -1,14 +1,16 @@
 -- Demand 2 for lists and reads: each list is sorted, a read gives exactly that list, and what was committed or formatted is what is read.
+use Rattle.image_log.specs.declared.Stored.TheVariants.{Done as Committed}
 use Rattle.std.proofs.Math.Path.{◌≡◌, refl, ap, ap₂, subst}
 use Rattle.std.proofs.Common.{sym, ◌∙◌, arith, lt-ltb, eq-eqb}
 use Rattle.std.proofs.Math.Bool.{true}
-use Rattle.std.specs.Prelude.{ℕ, zero, suc, ◌+◌, ◌≤◌, ◌<◌, length, get_or}
+use Rattle.std.specs.Prelude.{ℕ, zero, suc, ◌+◌, ◌≤◌, ◌<◌, length, get_or, Ok, Err}
 use mathlib.Core.List.{List, [], ◌∷◌, ◌++◌}
 use Rattle.std.proofs.Math.Option.{none}
 use Rattle.wire.specs.All.{All, more}
 use Rattle.wire.specs.Cases.{by_test, never}
-use Rattle.wire.specs.Rules.{Rule, first, refusal, answered, left}
-use Rattle.wire.specs.RulesLaws.{by_refusal, first-behind, first_passed, passes_both}
+use Rattle.refusals.specs.declared.Refusal.{Refusal}
+use Rattle.refusals.specs.Rules.{Rule, first, refusal, answered, left}
+use Rattle.refusals.specs.RulesLaws.{by_refusal, first-behind, first_passed, passes_both}
 use Rattle.records.specs.declared.Record.{Record}
 use Rattle.records.specs.Records.{Fits, key, before, below, rising_from, encode as record_bytes}
 use Rattle.records.specs.Order.{before-key, rising_parts, rising-at}
@@ -16,14 +18,12 @@ use Rattle.merges.specs.declared.Merge.{Merge}
 use Rattle.merges.specs.Merging.{merge}
 use Rattle.redo.specs.Image.{mark, home, head_ok, in_range, image_length, empty_image}
 use Rattle.redo.specs.ImageLaws.{in_range_lem, head_same}
-use Rattle.image_log.specs.declared.Outcome.TheVariants.{Done as Committed}
 use Rattle.image_log.specs.Calls.{Plan, answer, after, commit_plan}
 use Rattle.image_log.specs.FormatLaws.{format_done, empty_head, empty_mark, empty_home}
 use Rattle.image_log.specs.Book.{commit, seen, plan_of, allowance, value, final}
 use Rattle.image_log.specs.Claim.{Starts}
 use Rattle.image_log.proofs.Claim.{holds, done_uncaught}
 use Rattle.image_log.proofs.Kept.{completed}
-use Rattle.home.specs.declared.Answer.TheVariants.{Count, Refused}
 use Rattle.layout.specs.Zones.{blocks, find}
 use Rattle.home.specs.Bytes.{step_of, encode}
 use Rattle.home.specs.Sound.{sized, sound, list_of}
@@ -63,7 +63,7 @@ list-sorted h t s i j z f g k =
 -- ---- reads
 
 -- a read gives exactly that list
-pub reads_list : (of : Of) (bs : List ℕ) (t : ℕ) → refusal (gate_rules of bs) ≡ none → (count_in of bs t ≡ Count (length (list_in of bs t))) × (show_in of bs t ≡ record_bytes (list_in of bs t))
+pub reads_list : (of : Of) (bs : List ℕ) (t : ℕ) → refusal (gate_rules of bs) ≡ none → (count_in of bs t ≡ Ok (length (list_in of bs t))) × (show_in of bs t ≡ record_bytes (list_in of bs t))
 reads_list of bs t p = (count_open of bs t p, show_open of bs t p)
 
 sound-sized : (w : List ℕ) → sound w ≡ true → sized w ≡ true
@@ -86,25 +86,25 @@ pub record ReadsAs (of : Of) (a : List ℕ) (of' : Of) (b : List ℕ) : Type 0 w
   pub count : (t : ℕ) → count_in of a t ≡ count_in of' b t
   pub rank : (t k : ℕ) → rank_in of a t k ≡ rank_in of' b t k
   pub show : (t : ℕ) → show_in of a t ≡ show_in of' b t
-  pub merge : (m : Merge) (t u : ℕ) (out : List ℕ) → (answered Refused (merge_in m of a t u out) ≡ answered Refused (merge_in m of' b t u out)) × (left (merge_in m of a t u out) out ≡ left (merge_in m of' b t u out) out)
+  pub merge : (m : Merge) (t u : ℕ) (out : List ℕ) → (answered Err (merge_in m of a t u out) ≡ answered Err (merge_in m of' b t u out)) × (left (merge_in m of a t u out) out ≡ left (merge_in m of' b t u out) out)
 
 -- where neither is refused, if they have the same lists
 module _ (of : Of) (a : List ℕ) (of' : Of) (b : List ℕ) (p : refusal (gate_rules of a) ≡ none) (q : refusal (gate_rules of' b) ≡ none) where
-  both_open : {A : Type 0} (f : ℕ → A) (x y : A) → x ≡ y → first f (gate_rules of a) x ≡ first f (gate_rules of' b) y
+  both_open : {A : Type 0} (f : Refusal → A) (x y : A) → x ≡ y → first f (gate_rules of a) x ≡ first f (gate_rules of' b) y
   both_open f x y e = first_passed f (gate_rules of a) x p ∙ e ∙ sym (first_passed f (gate_rules of' b) y q)
 
-  both_behind : {A : Type 0} (f : ℕ → A) (rs ss : List Rule) (x y : A) → first f rs x ≡ first f ss y → first f (gate_rules of a ++ rs) x ≡ first f (gate_rules of' b ++ ss) y
+  both_behind : {A : Type 0} (f : Refusal → A) (rs ss : List Rule) (x y : A) → first f rs x ≡ first f ss y → first f (gate_rules of a ++ rs) x ≡ first f (gate_rules of' b ++ ss) y
   both_behind f rs ss x y e = first-behind f (gate_rules of a) rs x ∙ both_open f (first f rs x) (first f ss y) e ∙ sym (first-behind f (gate_rules of' b) ss y)
 
   pub lists_read : ((t : ℕ) → list_in of a t ≡ list_in of' b t) → ReadsAs of a of' b
   unfolding count_in rank_in show_in merge_in
   lists_read e = record {
-    count = λ t. both_open Refused _ _ (ap (λ (rs : List Record). Count (length rs)) (e t));
-    rank = λ t k. both_open Refused _ _ (ap (λ (rs : List Record). Count (below k rs)) (e t));
+    count = λ t. both_open Err _ _ (ap (λ (rs : List Record). Ok (length rs)) (e t));
+    rank = λ t k. both_open Err _ _ (ap (λ (rs : List Record). Ok (below k rs)) (e t));
     show = λ t. both_open (λ n. []) _ _ (ap record_bytes (e t));
     merge = λ m t u out.
         let c : merge m (list_in of a t) (list_in of a u) ≡ merge m (list_in of' b t) (list_in of' b u) = ap₂ (merge m) (e t) (e u) in
-        (both_behind Refused _ _ _ _ (ap (λ (rs : List Record). answered Refused (written rs out)) c), both_behind (λ n. out) _ _ _ _ (ap (λ (rs : List Record). left (written rs out) out) c));
+        (both_behind Err _ _ _ _ (ap (λ (rs : List Record). answered Err (written rs out)) c), both_behind (λ n. out) _ _ _ _ (ap (λ (rs : List Record). left (written rs out) out) c));
   }
 
 -- an image and a workspace that is its home
@@ -118,7 +118,7 @@ unfolding begin_call
 begun_reads l w e = home_reads l (left (begin_call l w) w) (passes_both (gate_rules Image l) _ e).0 (sym (first_passed (λ n. w) (begin_call l w).rules (home l) e))
 
 -- a committed workspace is what a read of the image then finds
-module _ (l w : List ℕ) (n m : ℕ) (done : answer (commit_plan sound l w) n ≡ Committed m) where
+module _ (l w : List ℕ) (n m : ℕ) (done : answer (commit_plan sound l w) n ≡ (Ok (Committed m))) where
   abbrev l' : List ℕ
   l' = after (commit_plan sound l w) n l
 
@@ -129,7 +129,7 @@ module _ (l w : List ℕ) (n m : ℕ) (done : answer (commit_plan sound l w) n �
   pub committed : Read
   unfolding answer final seen plan_of allowance value
   committed = by_refusal (gate_rules Image l)
-      (λ r q. let f = rw (commit_refused l w r q) at done in let z : ◌≡◌ {A = ℕ} 0 1 = cc in absurd (omega arith))
+      (λ r q. let f = rw (commit_refused l w r q) at done in cc)
       (λ q.
       let o = image_open l q in
       let s : Starts sound l = record { head = o.head; unmarked = o.clear; fine = o.fine } in
@@ -182,9 +182,9 @@ module _ (l : List ℕ) (L R step n : ℕ) (code : step ≤ 1) (fits : in_range 
   }
 
   -- it reads empty for every tag
-  pub formatted_reads : (t : ℕ) → (count_in Image made t ≡ Count 0) × (show_in Image made t ≡ [])
+  pub formatted_reads : (t : ℕ) → (count_in Image made t ≡ Ok 0) × (show_in Image made t ≡ [])
   unfolding home_in record_bytes
   formatted_reads t =
       let r = reads_list Image made t (image_opens made formatted-starts.head formatted-starts.unmarked formatted-starts.fine) in
       let e : list_of (home made) t ≡ [] = formatted_empty t in
-      (r.0 ∙ ap (λ (y : List Record). Count (length y)) e, r.1 ∙ ap record_bytes e)
+      (r.0 ∙ ap (λ (y : List Record). Ok (length y)) e, r.1 ∙ ap record_bytes e)

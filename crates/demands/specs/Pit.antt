@@ -1,5 +1,6 @@
 -- The pit terminal: its put is the desk's but for 17, and "Both limits hold on the same list in whatever sequence the two work".
-use Rattle.std.specs.Prelude.{◌≡◌, Bool, true, ◌≢◌, ◌⊎◌, List, ◌∷◌, ◌++◌, ℕ, suc, ◌≤◌, ◌<◌, max}
+use Rattle.refusals.specs.declared.Refusal.TheVariants.{ListFull, Listed, PitFull}
+use Rattle.std.specs.Prelude.{◌≡◌, Bool, true, ◌≢◌, ◌⊎◌, List, ◌∷◌, ◌++◌, ℕ, suc, ◌≤◌, ◌<◌, max, Ok, Err}
 use Rattle.std.proofs.Math.Path.{refl, sym, ap, subst}
 use Rattle.std.proofs.Common.{◌∙◌}
 use Rattle.std.proofs.Math.Bool.{false}
@@ -12,14 +13,14 @@ use Rattle.std.proofs.Math.ListN.{length}
 use borrow.Author.Tests.{le-leb, lt-leb, eq-eqb, eqb-false}
 use Rattle.wire.specs.All.{All, none as nothing, more, all_map}
 use Rattle.wire.specs.Cases.{by_test, by_lt, never}
-use Rattle.wire.specs.Rules.{Rule, rule, first, refusal, numbers}
-use Rattle.wire.specs.RulesLaws.{first-behind, refused_among, unrefused}
+use Rattle.refusals.specs.declared.Refusal.{Refusal}
+use Rattle.refusals.specs.Rules.{Rule, rule, first, refusal, numbers}
+use Rattle.refusals.specs.RulesLaws.{first-behind, refused_among, unrefused}
 use Rattle.records.specs.declared.Record.{Record}
 use Rattle.records.specs.Records.{key, look, held}
 use Rattle.image_log.specs.Claim.{Starts}
 use Rattle.layout.specs.Edits.{put as put_by}
 use Rattle.layout.proofs.EditsLaws.{length-insert, length-remove, length-amend}
-use Rattle.home.specs.declared.Answer.TheVariants.{Count, Refused}
 use Rattle.home.specs.Sound.{sound, list_of}
 use Rattle.edits.specs.declared.Terminal.{Terminal}
 use Rattle.edits.specs.declared.Terminal.TheVariants.{Desk, Pit}
@@ -31,7 +32,7 @@ use Rattle.gates.specs.GatesLaws.{space_open, image_open}
 use Rattle.reads.specs.Reads.{list_in, count_in}
 use Rattle.reads.specs.ReadsLaws.{sound-listed, count_open}
 use Rattle.index.specs.Calls.{put_call}
-use Rattle.demands.specs.Refusals.{edit, rules_of, of_answer, refused_with}
+use Rattle.demands.specs.Refusals.{edit, rules_of, refusal_in, refused_with}
 use Rattle.demands.specs.RefusalsLaws.{refused_exactly}
 use Rattle.demands.specs.Puts.{Closed, closed-refused, refused-closed, listed-refused, done_open}
 use Rattle.demands.specs.Sequences.{Edit, put, delete, set_minutes, drop_tag, edit_call, answer_of, made, tag_of, list_by, Ranged, Event, RangedIn, events, through, Turn, after_turns, all_events}
@@ -39,19 +40,19 @@ use Rattle.demands.specs.SequencesLaws.{edit_sound, by_list, events-keep, turns_
 
 -- ---- the pit's beside the desk's
 
--- "after 8 and before 10": with rule 10 behind that of 17 nothing would differ, for a list of 989 has 64
-pub before_ten : {A : Type 0} (f : ℕ → A) (gs us : List Rule) (h : Bool) (n : ℕ) (a : A) → first f (gs ++ (rule 8 h ∷ rule 17 (leb 64 n) ∷ rule 10 (leb 989 n) ∷ us)) a ≡ first f (gs ++ (rule 8 h ∷ rule 17 (leb 64 n) ∷ us)) a
+-- "after 8 and before 10": with the rule of 10 behind that of 17 nothing would differ, for a list of 989 has 64
+pub before_ten : {A : Type 0} (f : Refusal → A) (gs us : List Rule) (h : Bool) (n : ℕ) (a : A) → first f (gs ++ (rule Listed h ∷ rule PitFull (leb 64 n) ∷ rule ListFull (leb 989 n) ∷ us)) a ≡ first f (gs ++ (rule Listed h ∷ rule PitFull (leb 64 n) ∷ us)) a
 unfolding first
 before_ten f gs us h n a =
-    first-behind f gs (rule 8 h ∷ rule 17 (leb 64 n) ∷ rule 10 (leb 989 n) ∷ us) a
+    first-behind f gs (rule Listed h ∷ rule PitFull (leb 64 n) ∷ rule ListFull (leb 989 n) ∷ us) a
     ∙ ap (first f gs) (by_lt n 64 (λ g. rw (lt-leb 989 n (omega arith)) refl) (λ g. rw (le-leb 64 n g) refl))
-    ∙ sym (first-behind f gs (rule 8 h ∷ rule 17 (leb 64 n) ∷ us) a)
+    ∙ sym (first-behind f gs (rule Listed h ∷ rule PitFull (leb 64 n) ∷ us) a)
 
 module _ (w : List ℕ) (t : ℕ) (r : Record) where
   -- no rule but the limit's differs
-  same_open : {A : Type 0} (f : ℕ → A) (gs us : List Rule) (h c d : Bool) (a : A) → c ≡ false → d ≡ false → first f (gs ++ (rule 8 h ∷ rule 17 c ∷ us)) a ≡ first f (gs ++ (rule 8 h ∷ rule 10 d ∷ us)) a
+  same_open : {A : Type 0} (f : Refusal → A) (gs us : List Rule) (h c d : Bool) (a : A) → c ≡ false → d ≡ false → first f (gs ++ (rule Listed h ∷ rule PitFull c ∷ us)) a ≡ first f (gs ++ (rule Listed h ∷ rule ListFull d ∷ us)) a
   unfolding first
-  same_open f gs us h c d a e g = first-behind f gs (rule 8 h ∷ rule 17 c ∷ us) a ∙ ap (first f gs) (rw (e, g) refl) ∙ sym (first-behind f gs (rule 8 h ∷ rule 10 d ∷ us) a)
+  same_open f gs us h c d a e g = first-behind f gs (rule Listed h ∷ rule PitFull c ∷ us) a ∙ ap (first f gs) (rw (e, g) refl) ∙ sym (first-behind f gs (rule Listed h ∷ rule ListFull d ∷ us) a)
 
   -- "only to lists of fewer than 64 records": to these it is the desk's, in answer and bytes
   pub pit_open : length (list_of w t) < 64 → (answer_of (put Pit t r) w ≡ answer_of (put Desk t r) w) × (made (put Pit t r) w ≡ made (put Desk t r) w)
@@ -59,17 +60,17 @@ module _ (w : List ℕ) (t : ℕ) (r : Record) where
   pit_open g =
       let c : leb 64 (length (list_of w t)) ≡ false = lt-leb 64 (length (list_of w t)) g in
       let d : leb 989 (length (list_of w t)) ≡ false = lt-leb 989 (length (list_of w t)) (omega arith) in
-      (same_open Refused (gate_rules Space w) _ (held (look (key r) (list_of w t))) _ _ _ c d, same_open (λ n. w) (gate_rules Space w) _ (held (look (key r) (list_of w t))) _ _ _ c d)
+      (same_open Err (gate_rules Space w) _ (held (look (key r) (list_of w t))) _ _ _ c d, same_open (λ n. w) (gate_rules Space w) _ (held (look (key r) (list_of w t))) _ _ _ c d)
 
   -- so it is never refused with 10
-  pub pit_never_ten : answer_of (put Pit t r) w ≢ Refused 10
-  unfolding edit_call put_call put_by gate_rules full_of numbers refused_with rules_of of_answer
+  pub pit_never_ten : answer_of (put Pit t r) w ≢ Err ListFull
+  unfolding edit_call put_call put_by gate_rules full_of numbers refused_with rules_of refusal_in
   pit_never_ten e =
-      let q : refusal (edit_call (put Pit t r) w).rules ≡ some 10 = sym (refused_exactly (edit (put Pit t r) w)) ∙ ap of_answer e in
-      eqb-false 10 10 (refused_among {P = λ (m : ℕ). eqb m 10 ≡ false} (edit_call (put Pit t r) w).rules 10 (more refl (more refl (more refl (more refl (more refl (more refl (more refl nothing))))))) q) refl
+      let q : refusal (edit_call (put Pit t r) w).rules ≡ some ListFull = sym (refused_exactly (edit (put Pit t r) w)) ∙ ap refusal_in e in
+      eqb-false 10 10 (refused_among {P = λ (m : ℕ). eqb m 10 ≡ false} (edit_call (put Pit t r) w).rules ListFull (more refl (more refl (more refl (more refl (more refl (more refl (more refl nothing))))))) q) refl
 
   -- "a list the desk filled to 70 is closed to the pit": a listed call is refused with 8, any other with 17
-  pub pit_shut : sound w ≡ true → 64 ≤ length (list_of w t) → (answer_of (put Pit t r) w ≡ Refused 8) ⊎ (answer_of (put Pit t r) w ≡ Refused 17)
+  pub pit_shut : sound w ≡ true → 64 ≤ length (list_of w t) → (answer_of (put Pit t r) w ≡ Err Listed) ⊎ (answer_of (put Pit t r) w ≡ Err PitFull)
   unfolding limit_of full_of
   pit_shut s g = by_test (held (look (key r) (list_of w t)))
       (λ e. inl (listed-refused Pit w t r s e))
@@ -82,9 +83,9 @@ module _ (w : List ℕ) (t : ℕ) (r : Record) where
 pub record Limits (v : Event) : Type 0 where
   pub fine : sound v.space ≡ true
   pub short : (t : ℕ) → length (list_of v.space t) ≤ 989
-  pub refused : (by : Terminal) (t : ℕ) (r : Record) → v.edit ≡ put by t r → answer_of (put by t r) v.space ≡ Refused (full_of by) → Closed by v.space t r
-  pub closed : (by : Terminal) (t : ℕ) (r : Record) → v.edit ≡ put by t r → Closed by v.space t r → answer_of (put by t r) v.space ≡ Refused (full_of by)
-  pub done : (by : Terminal) (t : ℕ) (r : Record) → v.edit ≡ put by t r → (n : ℕ) → answer_of (put by t r) v.space ≡ Count n → (n ≡ suc (length (list_of v.space t))) × (length (list_of v.space t) < limit_of by)
+  pub refused : (by : Terminal) (t : ℕ) (r : Record) → v.edit ≡ put by t r → answer_of (put by t r) v.space ≡ Err (full_of by) → Closed by v.space t r
+  pub closed : (by : Terminal) (t : ℕ) (r : Record) → v.edit ≡ put by t r → Closed by v.space t r → answer_of (put by t r) v.space ≡ Err (full_of by)
+  pub done : (by : Terminal) (t : ℕ) (r : Record) → v.edit ≡ put by t r → (n : ℕ) → answer_of (put by t r) v.space ≡ Ok n → (n ≡ suc (length (list_of v.space t))) × (length (list_of v.space t) < limit_of by)
 
 abbrev IsSound : List ℕ → Type 0
 IsSound w = sound w ≡ true
@@ -110,11 +111,11 @@ limits_hold_at l s us c = all_map limits (turns_keep IsSound RangedIn stays_soun
 
 -- ---- what a count tells
 
-counted : (of : Of) (bs : List ℕ) (t j : ℕ) → count_in of bs t ≡ Count j → (refusal (gate_rules of bs) ≡ none) × (length (list_in of bs t) ≡ j)
+counted : (of : Of) (bs : List ℕ) (t j : ℕ) → count_in of bs t ≡ Ok j → (refusal (gate_rules of bs) ≡ none) × (length (list_in of bs t) ≡ j)
 unfolding count_in
 counted of bs t j e =
-    let p = unrefused Refused (gate_rules of bs) (Count (length (list_in of bs t))) (Count j) (λ n q. let z : ◌≡◌ {A = ℕ} 0 1 = cc in omega arith) e in
-    let q : Count (length (list_in of bs t)) ≡ Count j = sym (count_open of bs t p) ∙ e in
+    let p = unrefused Err (gate_rules of bs) (Ok (length (list_in of bs t))) (Ok j) (λ n q. cc) e in
+    let q : Ok (length (list_in of bs t)) ≡ Ok j = sym (count_open of bs t p) ∙ e in
     (p, cc)
 
 -- an image that is read is one on which turns start
@@ -141,7 +142,7 @@ module _ (t : ℕ) where
     fine : sound w ≡ true
     short : length (list_of w t) ≤ m
 
-  no_longer : (m : ℕ) → 64 ≤ m → (e : Edit) (w : List ℕ) → Ranged e → desk_put t e ≡ false → (n : ℕ) → tag_of e ≡ t → answer_of e w ≡ Count n → length (list_of w t) ≤ m → length (list_by e (list_of w t)) ≤ m
+  no_longer : (m : ℕ) → 64 ≤ m → (e : Edit) (w : List ℕ) → Ranged e → desk_put t e ≡ false → (n : ℕ) → tag_of e ≡ t → answer_of e w ≡ Ok n → length (list_of w t) ≤ m → length (list_by e (list_of w t)) ≤ m
   unfolding desk_put tag_of list_by limit_of
   no_longer m g (put Desk u r) w f d n i a h = never (sym d ∙ eq-eqb u t i)
   no_longer m g (put Pit u r) w f d n i a h =
@@ -159,7 +160,7 @@ module _ (t : ℕ) where
   }
 
   -- over edits without desk puts to it a list never grows beyond the larger of 64 and what it was
-  pub deskless_within : (w : List ℕ) (j : ℕ) → count_in Space w t ≡ Count j → (es : List Edit) → All Deskless (events es w) → (k : ℕ) → count_in Space (through es w) t ≡ Count k → k ≤ max 64 j
+  pub deskless_within : (w : List ℕ) (j : ℕ) → count_in Space w t ≡ Ok j → (es : List Edit) → All Deskless (events es w) → (k : ℕ) → count_in Space (through es w) t ≡ Ok k → k ≤ max 64 j
   unfolding home_in
   deskless_within w j e es c k f =
       let p = counted Space w t j e in
@@ -168,7 +169,7 @@ module _ (t : ℕ) where
       omega (arith, q.1, h.short)
 
   -- and over turns at an image, wherever they are cut and caught, as soon as it is read
-  pub deskless_within_at : (l : List ℕ) (j : ℕ) → count_in Image l t ≡ Count j → (us : List Turn) → All Deskless (all_events us l) → (k : ℕ) → count_in Image (after_turns us l) t ≡ Count k → k ≤ max 64 j
+  pub deskless_within_at : (l : List ℕ) (j : ℕ) → count_in Image l t ≡ Ok j → (us : List Turn) → All Deskless (all_events us l) → (k : ℕ) → count_in Image (after_turns us l) t ≡ Ok k → k ≤ max 64 j
   unfolding home_in
   deskless_within_at l j e us c k f =
       let p = counted Image l t j e in
@@ -190,17 +191,17 @@ module _ (t : ℕ) where
   -- none is accepted
   pub record Unshortened (v : Event) : Type 0 where
     pub ranged : Ranged v.edit
-    pub unshortened : shortens t v.edit ≡ true → (n : ℕ) → answer_of v.edit v.space ≢ Count n
+    pub unshortened : shortens t v.edit ≡ true → (n : ℕ) → answer_of v.edit v.space ≢ Ok n
 
   -- a pit put to tag t is refused, with 8 if its call is listed
   abbrev pub Shut : Event → Type 0
-  Shut v = (r : Record) → v.edit ≡ put Pit t r → (answer_of (put Pit t r) v.space ≡ Refused 8) ⊎ (answer_of (put Pit t r) v.space ≡ Refused 17)
+  Shut v = (r : Record) → v.edit ≡ put Pit t r → (answer_of (put Pit t r) v.space ≡ Err Listed) ⊎ (answer_of (put Pit t r) v.space ≡ Err PitFull)
 
   record Filled (w : List ℕ) : Type 0 where
     fine : sound w ≡ true
     many : 64 ≤ length (list_of w t)
 
-  no_shorter : (e : Edit) (w : List ℕ) → (shortens t e ≡ true → (n : ℕ) → answer_of e w ≢ Count n) → (n : ℕ) → tag_of e ≡ t → answer_of e w ≡ Count n → 64 ≤ length (list_of w t) → 64 ≤ length (list_by e (list_of w t))
+  no_shorter : (e : Edit) (w : List ℕ) → (shortens t e ≡ true → (n : ℕ) → answer_of e w ≢ Ok n) → (n : ℕ) → tag_of e ≡ t → answer_of e w ≡ Ok n → 64 ≤ length (list_of w t) → 64 ≤ length (list_by e (list_of w t))
   unfolding shortens tag_of list_by
   no_shorter (put by u r) w c n i a h = omega (arith, length-insert r (list_of w t))
   no_shorter (delete u k) w c n i a h = absurd (c (eq-eqb u t i) n a)
@@ -218,16 +219,16 @@ module _ (t : ℕ) where
   shut v (h, c) = λ r e. pit_shut v.space t r h.fine h.many
 
   -- "a list the desk filled to 70 is closed to the pit until it is under 64 again", whatever the desk does: at each edit, and it still has 64
-  pub closed_until : (w : List ℕ) (j : ℕ) → count_in Space w t ≡ Count j → 64 ≤ j → (es : List Edit) → All Unshortened (events es w)
-      → All Shut (events es w) × ((k : ℕ) → count_in Space (through es w) t ≡ Count k → 64 ≤ k)
+  pub closed_until : (w : List ℕ) (j : ℕ) → count_in Space w t ≡ Ok j → 64 ≤ j → (es : List Edit) → All Unshortened (events es w)
+      → All Shut (events es w) × ((k : ℕ) → count_in Space (through es w) t ≡ Ok k → 64 ≤ k)
   unfolding home_in
   closed_until w j e g es c =
       let p = counted Space w t j e in
       let h = events-keep Filled Unshortened filled-kept es w (record { fine = space_open w p.0; many = omega (arith, p.1) }) c in
       (all_map shut h.0, λ k f. omega (arith, (counted Space (through es w) t k f).1, h.1.many))
 
-  pub closed_until_at : (l : List ℕ) (j : ℕ) → count_in Image l t ≡ Count j → 64 ≤ j → (us : List Turn) → All Unshortened (all_events us l)
-      → All Shut (all_events us l) × ((k : ℕ) → count_in Image (after_turns us l) t ≡ Count k → 64 ≤ k)
+  pub closed_until_at : (l : List ℕ) (j : ℕ) → count_in Image l t ≡ Ok j → 64 ≤ j → (us : List Turn) → All Unshortened (all_events us l)
+      → All Shut (all_events us l) × ((k : ℕ) → count_in Image (after_turns us l) t ≡ Ok k → 64 ≤ k)
   unfolding home_in
   closed_until_at l j e g us c =
       let p = counted Image l t j e in

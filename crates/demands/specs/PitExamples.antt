@@ -1,7 +1,8 @@
 -- The specification's case for the pit, computed from the definitions that the calls' contracts cite: a list of 70, then one of 63.
-use Rattle.std.specs.Prelude.{◌≡◌, refl, List, [], ◌∷◌, ℕ, zero, suc, ◌+◌, replicate}
+use Rattle.refusals.specs.declared.Refusal.TheVariants.{Listed, PitFull}
+use Rattle.std.specs.Prelude.{◌≡◌, refl, List, [], ◌∷◌, ℕ, zero, suc, ◌+◌, replicate, Ok, Err}
 use Rattle.wire.specs.Bytes.{part, over, get16, get32, bytes16, bytes32, equal, blank}
-use Rattle.wire.specs.Rules.{first}
+use Rattle.refusals.specs.Rules.{first}
 use Rattle.records.specs.declared.Record.{Record}
 use Rattle.records.specs.Records.{key, look, insert, remove, rising_from, bytes_of, record_at, records}
 use Rattle.layout.specs.Capacities.{capacity, cells, class_of}
@@ -12,7 +13,6 @@ use Rattle.layout.specs.Valid.{valid}
 use Rattle.layout.specs.Edits.{put as put_by, delete as delete_by}
 use Rattle.home.specs.Bytes.{spots, encode, decode, zones_from}
 use Rattle.home.specs.Sound.{sound, sized, list_of}
-use Rattle.home.specs.declared.Answer.TheVariants.{Count, Refused}
 use Rattle.moves.specs.Stored.{settled}
 use Rattle.edits.specs.declared.Terminal.TheVariants.{Desk, Pit}
 use Rattle.edits.specs.Edits.{limit_of, full_of}
@@ -44,8 +44,8 @@ without (d ∷ ds) rs = without ds (list_by (delete 7 (key d)) rs)
 
 -- "a list the desk filled to 70 is closed to the pit", to a listed call with 8, and the desk goes on;
 -- seven deletes leave 64 calls, with one more it is "under 64 again", and 64 close it
-case : (answers (put Pit 7 (call 70) ∷ put Pit 7 (call 69) ∷ put Desk 7 (call 70) ∷ []) (filled 0 70) ≡ Refused 17 ∷ Refused 8 ∷ Count 71 ∷ [])
+case : (answers (put Pit 7 (call 70) ∷ put Pit 7 (call 69) ∷ put Desk 7 (call 70) ∷ []) (filled 0 70) ≡ Err PitFull ∷ Err Listed ∷ Ok 71 ∷ [])
     × (without (calls_from 0 7) (list_by (put Desk 7 (call 70)) (calls_from 0 70)) ≡ calls_from 7 64)
-    × (answers (put Pit 7 (call 71) ∷ delete 7 (key (call 7)) ∷ put Pit 7 (call 71) ∷ put Pit 7 (call 72) ∷ []) (filled 7 64) ≡ Refused 17 ∷ Count 63 ∷ Count 64 ∷ Refused 17 ∷ [])
+    × (answers (put Pit 7 (call 71) ∷ delete 7 (key (call 7)) ∷ put Pit 7 (call 71) ∷ put Pit 7 (call 72) ∷ []) (filled 7 64) ≡ Err PitFull ∷ Ok 63 ∷ Ok 64 ∷ Err PitFull ∷ [])
 unfolding answers filled without list_by call calls_from events edit_call put_call delete_call limit_of full_of gate_rules first sized sound list_of valid decode zones_from encode spots settled put_by delete_by building_full total_after change settle place take_out rewritten has_tag find blocks class_of capacity cells key look insert remove rising_from bytes_of record_at records part over get16 get32 bytes16 bytes32 equal blank
 case = (refl, refl, refl)

@@ -1,25 +1,23 @@
 -- Third in line: the number foretold is the place at which a put record then stands, in the workspace and through a commit.
-use Rattle.std.specs.Prelude.{◌≡◌, refl, true, ◌≢◌, ℕ, suc, ◌+◌, ◌≤◌, ◌<◌, ltb, length, get_or}
+use Rattle.image_log.specs.declared.Stored.TheVariants.{Done as Committed}
+use Rattle.std.specs.Prelude.{◌≡◌, refl, true, ◌≢◌, ℕ, suc, ◌+◌, ◌≤◌, ◌<◌, ltb, length, get_or, Ok, Err}
 use Rattle.std.proofs.Math.Path.{sym, ap}
 use Rattle.std.proofs.Common.{◌∙◌, subst, ⊎_elim, arith, le-ltb}
 use Rattle.std.proofs.Math.Option.{none}
 use mathlib.Core.List.{List, [], ◌∷◌}
 use Rattle.wire.specs.All.{All}
-use Rattle.wire.specs.Rules.{refusal, answered, left}
+use Rattle.refusals.specs.Rules.{refusal, answered, left, Answer}
 use Rattle.records.specs.declared.Record.{Record}
 use Rattle.records.specs.Records.{Fits, tally, key, before, rank, many, below, insert}
 use Rattle.records.specs.Order.{rank-length, rank_below, rank-place, below-before, insert-below, insert_there, insert-before, insert-behind}
 use Rattle.redo.specs.Store.{Store}
 use Rattle.redo.specs.Image.{home}
-use Rattle.image_log.specs.declared.Outcome.TheVariants.{Done as Committed}
 use Rattle.image_log.specs.Calls.{store, answer, after, changed_pages, commit_plan}
 use Rattle.image_log.specs.Book.{Call, commit, final}
 use Rattle.image_log.specs.Claim.{Starts}
 use Rattle.image_log.specs.Kept.{IsRecover}
 use Rattle.image_log.proofs.Kept.{one_found, starts}
 use Rattle.layout.proofs.EditsLaws.{length-insert}
-use Rattle.home.specs.declared.Answer.{Answer}
-use Rattle.home.specs.declared.Answer.TheVariants.{Count, Refused}
 use Rattle.home.specs.Sound.{sound, list_of}
 use Rattle.gates.specs.declared.Of.{Of}
 use Rattle.gates.specs.declared.Of.TheVariants.{Image, Space}
@@ -37,31 +35,31 @@ use Rattle.demands.specs.Lists.{space_opens, image_opens, home_reads, committed_
 
 module _ (of : Of) (bs : List ℕ) (t : ℕ) (passed : refusal (gate_rules of bs) ≡ none) where
   -- how many of the tag's records stand before r by level, second, phone
-  pub rank-before : (r : Record) → Fits r → rank_in of bs t (key r) ≡ Count (many (λ x. before x r) (list_in of bs t))
-  rank-before r f = rank_open of bs t passed (key r) ∙ ap Count (below-before r (list_in of bs t) f (sound-listed (home_in of bs) t (home_fine of bs passed)).fits)
+  pub rank-before : (r : Record) → Fits r → rank_in of bs t (key r) ≡ Ok (many (λ x. before x r) (list_in of bs t))
+  rank-before r f = rank_open of bs t passed (key r) ∙ ap Ok (below-before r (list_in of bs t) f (sound-listed (home_in of bs) t (home_fine of bs passed)).fits)
 
   -- of a listed record, its place in the list: the first has 0 before it
-  pub rank-listed : (i : ℕ) (z : Record) → i < length (list_in of bs t) → rank_in of bs t (key (get_or (list_in of bs t) i z)) ≡ Count i
+  pub rank-listed : (i : ℕ) (z : Record) → i < length (list_in of bs t) → rank_in of bs t (key (get_or (list_in of bs t) i z)) ≡ Ok i
   rank-listed i z g =
       let rises = (sound-listed (home_in of bs) t (home_fine of bs passed)).rising in
       rank_open of bs t passed (key (get_or (list_in of bs t) i z))
-      ∙ ap Count (sym (rank_below (key (get_or (list_in of bs t) i z)) 0 (list_in of bs t) rises) ∙ rank-place 0 i (list_in of bs t) z rises g)
+      ∙ ap Ok (sym (rank_below (key (get_or (list_in of bs t) i z)) 0 (list_in of bs t) rises) ∙ rank-place 0 i (list_in of bs t) z rises g)
 
   -- "0 for an unknown tag"
-  pub rank_unknown : (k : ℕ) → list_in of bs t ≡ [] → rank_in of bs t k ≡ Count 0
+  pub rank_unknown : (k : ℕ) → list_in of bs t ≡ [] → rank_in of bs t k ≡ Ok 0
   unfolding many
-  rank_unknown k e = rank_open of bs t passed k ∙ ap (λ (x : List Record). Count (below k x)) e
+  rank_unknown k e = rank_open of bs t passed k ∙ ap (λ (x : List Record). Ok (below k x)) e
 
 -- ---- an edit of tag t that makes a list of rs
 
-space_rank : (w : List ℕ) (t k : ℕ) → sound w ≡ true → rank_in Space w t k ≡ Count (below k (list_of w t))
+space_rank : (w : List ℕ) (t k : ℕ) → sound w ≡ true → rank_in Space w t k ≡ Ok (below k (list_of w t))
 unfolding home_in
 space_rank w t k s = rank_open Space w t (space_opens w s) k
 
 -- other tags' ranks stay
 pub others-ranked : (w w' : List ℕ) (t : ℕ) (rs : List Record) (a : Answer) → Effect w w' t rs a → (u k : ℕ) → u ≢ t → rank_in Space w' u k ≡ rank_in Space w u k
-others-ranked w w' t rs (Refused n) e u k d = ap (λ (x : List ℕ). rank_in Space x u k) e
-others-ranked w w' t rs (Count n) e u k d = space_rank w' u k e.fine ∙ ap (λ (x : List Record). Count (below k x)) (e.others u d) ∙ sym (space_rank w u k e.was)
+others-ranked w w' t rs (Err n) e u k d = ap (λ (x : List ℕ). rank_in Space x u k) e
+others-ranked w w' t rs (Ok n) e u k d = space_rank w' u k e.fine ∙ ap (λ (x : List Record). Ok (below k x)) (e.others u d) ∙ sym (space_rank w u k e.was)
 
 -- ---- a put, done or refused: an edit that puts r into the list
 
@@ -72,7 +70,7 @@ pub record Stands (w w' : List ℕ) (t : ℕ) (r : Record) (n i : ℕ) : Type 0 
   pub before : (j : ℕ) (z : Record) → j < i → get_or (list_of w' t) j z ≡ get_or (list_of w t) j z
   pub behind : (j : ℕ) (z : Record) → i ≤ j → get_or (list_of w' t) (suc j) z ≡ get_or (list_of w t) j z
   -- so any primary part, listed or not, has one call more before it exactly if r stands before it
-  pub moves : (k j : ℕ) → rank_in Space w t k ≡ Count j → rank_in Space w' t k ≡ Count (j + tally (ltb (key r) k))
+  pub moves : (k j : ℕ) → rank_in Space w t k ≡ Ok j → rank_in Space w' t k ≡ Ok (j + tally (ltb (key r) k))
 
 module _ (w w' : List ℕ) (t : ℕ) (r : Record) where
   abbrev Puts : Answer → Type 0
@@ -81,24 +79,24 @@ module _ (w w' : List ℕ) (t : ℕ) (r : Record) where
   abbrev rs : List Record
   rs = list_of w t
 
-  done_rank : (n k : ℕ) → Puts (Count n) → rank_in Space w' t k ≡ Count (below k rs + tally (ltb (key r) k))
-  done_rank n k e = space_rank w' t k e.fine ∙ ap (λ (x : List Record). Count (below k x)) e.list ∙ ap Count (insert-below k r rs)
+  done_rank : (n k : ℕ) → Puts (Ok n) → rank_in Space w' t k ≡ Ok (below k rs + tally (ltb (key r) k))
+  done_rank n k e = space_rank w' t k e.fine ∙ ap (λ (x : List Record). Ok (below k x)) e.list ∙ ap Ok (insert-below k r rs)
 
   pub puts_foretold : (a : Answer) → Puts a → rank_in Space w' t (key r) ≡ rank_in Space w t (key r)
   unfolding tally
-  puts_foretold (Refused n) e = ap (λ (x : List ℕ). rank_in Space x t (key r)) e
-  puts_foretold (Count n) e = done_rank n (key r) e ∙ ap Count (rw (le-ltb (key r) (key r) (omega arith)) (omega arith)) ∙ sym (space_rank w t (key r) e.was)
+  puts_foretold (Err n) e = ap (λ (x : List ℕ). rank_in Space x t (key r)) e
+  puts_foretold (Ok n) e = done_rank n (key r) e ∙ ap Ok (rw (le-ltb (key r) (key r) (omega arith)) (omega arith)) ∙ sym (space_rank w t (key r) e.was)
 
-  pub puts_stands : (n i : ℕ) → Puts (Count n) → rank_in Space w t (key r) ≡ Count i → Stands w w' t r n i
+  pub puts_stands : (n i : ℕ) → Puts (Ok n) → rank_in Space w t (key r) ≡ Ok i → Stands w w' t r n i
   puts_stands n i e f =
-      let was : (k j : ℕ) → rank_in Space w t k ≡ Count j → below k rs ≡ j = λ k j g. let q : Count (below k rs) ≡ Count j = sym (space_rank w t k e.was) ∙ g in cc in
+      let was : (k j : ℕ) → rank_in Space w t k ≡ Ok j → below k rs ≡ j = λ k j g. let q : Ok (below k rs) ≡ Ok j = sym (space_rank w t k e.was) ∙ g in cc in
       let place : rank (key r) rs ≡ i = rank_below (key r) 0 rs (sound-listed w t e.was).rising ∙ was (key r) i f in
       record {
         inside = omega (arith, e.counts, length-insert r rs, rank-length (key r) rs, place);
         there = λ z. ap (λ (x : List Record). get_or x i z) e.list ∙ ap (λ (j : ℕ). get_or (insert r rs) j z) (sym place) ∙ insert_there r rs z;
         before = λ j z g. ap (λ (x : List Record). get_or x j z) e.list ∙ insert-before r rs j z (omega (arith, place));
         behind = λ j z g. ap (λ (x : List Record). get_or x (suc j) z) e.list ∙ insert-behind r rs j z (omega (arith, place));
-        moves = λ k j g. done_rank n k e ∙ ap (λ (m : ℕ). Count (m + tally (ltb (key r) k))) (was k j g);
+        moves = λ k j g. done_rank n k e ∙ ap (λ (m : ℕ). Ok (m + tally (ltb (key r) k))) (was k j g);
       }
 
 -- ---- put, by either terminal
@@ -107,21 +105,21 @@ module _ (by : Terminal) (w : List ℕ) (t : ℕ) (small : t < 4294967296) (r : 
   abbrev w' : List ℕ
   w' = left (put_call by w t r) w
 
-  effect : Effect w w' t (insert r (list_of w t)) (answered Refused (put_call by w t r))
+  effect : Effect w w' t (insert r (list_of w t)) (answered Err (put_call by w t r))
   effect = put_effect w t small by r fits
 
   -- "Putting a record and then counting must give the number foretold": also where the put is refused
   pub put-foretold : rank_in Space w' t (key r) ≡ rank_in Space w t (key r)
-  put-foretold = puts_foretold w w' t r (answered Refused (put_call by w t r)) effect
+  put-foretold = puts_foretold w w' t r (answered Err (put_call by w t r)) effect
 
-  pub put_stands : (n i : ℕ) → answered Refused (put_call by w t r) ≡ Count n → rank_in Space w t (key r) ≡ Count i → Stands w w' t r n i
+  pub put_stands : (n i : ℕ) → answered Err (put_call by w t r) ≡ Ok n → rank_in Space w t (key r) ≡ Ok i → Stands w w' t r n i
   put_stands n i d = puts_stands w w' t r n i (subst (Effect w w' t (insert r (list_of w t))) d effect)
 
   pub put-others : (u k : ℕ) → u ≢ t → rank_in Space w' u k ≡ rank_in Space w u k
-  put-others = others-ranked w w' t (insert r (list_of w t)) (answered Refused (put_call by w t r)) effect
+  put-others = others-ranked w w' t (insert r (list_of w t)) (answered Err (put_call by w t r)) effect
 
   -- and once it is committed
-  pub foretold-committed : (l : List ℕ) (n m : ℕ) → answer (commit_plan sound l w') n ≡ Committed m → rank_in Image (after (commit_plan sound l w') n l) t (key r) ≡ rank_in Space w t (key r)
+  pub foretold-committed : (l : List ℕ) (n m : ℕ) → answer (commit_plan sound l w') n ≡ (Ok (Committed m)) → rank_in Image (after (commit_plan sound l w') n l) t (key r) ≡ rank_in Space w t (key r)
   foretold-committed l n m d = (committed_reads l w' n m d).rank t (key r) ∙ put-foretold
 
 -- Asked of an image, then put in what was begun from it and committed: wherever the commit and any recoveries are cut and caught,

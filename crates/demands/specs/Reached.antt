@@ -1,16 +1,17 @@
 -- Which edits an image holds: wherever a turn is cut and caught, all of its edits or none, and after turns that are all finished, all.
-use Rattle.std.specs.Prelude.{◌≡◌, ◌⊎◌, ℕ, zero, suc, length}
+use Rattle.image_log.specs.declared.Stored.TheVariants.{Done as Committed}
+use Rattle.std.specs.Prelude.{◌≡◌, ◌⊎◌, ℕ, zero, suc, length, Ok}
 use Rattle.std.proofs.Math.Path.{refl, ap, subst}
 use Rattle.std.proofs.Common.{sym, ◌∙◌, inr, ⊎_elim, arith, eq-eqb, ne_eqb}
 use Rattle.std.proofs.Math.Logic.{inl}
 use Rattle.std.proofs.Math.Option.{none}
 use mathlib.Core.List.{List, [], ◌∷◌, ◌++◌}
 use Rattle.wire.specs.All.{All, none as nothing, more, all_append}
-use Rattle.wire.specs.Rules.{first, refusal}
-use Rattle.wire.specs.RulesLaws.{by_refusal}
+use Rattle.refusals.specs.declared.Refusal.{Refusal}
+use Rattle.refusals.specs.Rules.{first, refusal}
+use Rattle.refusals.specs.RulesLaws.{by_refusal}
 use Rattle.redo.specs.Store.{halfway, apply}
 use Rattle.redo.specs.Image.{mark, home}
-use Rattle.image_log.specs.declared.Outcome.TheVariants.{Done as Committed}
 use Rattle.image_log.specs.Calls.{Plan, refuse, store, answer, after, recover_rules, recover_plan, changed_pages, commit_plan}
 use Rattle.image_log.specs.Book.{Call, commit, recover, allowance, value, plan_of, rest, caught, seen, final}
 use Rattle.image_log.specs.Kept.{IsRecover, is_recover}
@@ -49,7 +50,7 @@ unfolding caught rest after halfway apply
 no_stores zero v l = refl
 no_stores (suc n) v l = refl
 
-refused_same : (r n v : ℕ) (l : List ℕ) → caught (refuse r) n v l ≡ l
+refused_same : (r : Refusal) (n v : ℕ) (l : List ℕ) → caught (refuse r) n v l ≡ l
 unfolding caught rest after halfway
 refused_same r n v l = refl
 
@@ -98,7 +99,7 @@ edits_of (u ∷ us) = edits_in u ++ edits_of us
 
 -- a turn's begin and edits are not refused, and its commit is done; a recovery may stand anywhere
 abbrev pub Finished : Turn → List ℕ → Type 0
-Finished (turn w es n v) l = (refusal (begin_call l w).rules ≡ none) × All Accepted (events es (home l)) × ((m : ℕ) × (answer (commit_plan sound l (through es (home l))) n ≡ Committed m))
+Finished (turn w es n v) l = (refusal (begin_call l w).rules ≡ none) × All Accepted (events es (home l)) × ((m : ℕ) × (answer (commit_plan sound l (through es (home l))) n ≡ (Ok (Committed m))))
 Finished (recovery n v) l = Unit {0}
 
 abbrev pub AllFinished : List Turn → List ℕ → Type 0

@@ -1,20 +1,16 @@
 -- Every public call with an answer: its rules, whether it is refused, and the bytes lent to it to write, before and after.
 -- (What is lent to be read cannot change; show answers a part of it, empty where a count of the same is refused.)
-use Rattle.std.specs.Prelude.{ℕ, Bool, List, []}
+use Rattle.std.specs.Prelude.{ℕ, Bool, List, [], Ok, Err}
+use Rattle.std.specs.declared.result.Result.{Result}
 use Rattle.std.proofs.Math.Option.{Option, none, some}
-use Rattle.wire.specs.Rules.{Rule, answered, left}
+use Rattle.refusals.specs.declared.Refusal.{Refusal}
+use Rattle.refusals.specs.Rules.{Rule, answered, left}
 use Rattle.merges.specs.declared.Merge.{Merge}
-use Rattle.image_log.specs.declared.Outcome.{Outcome}
-use Rattle.image_log.specs.declared.Outcome.TheVariants.{Done, Cut, Refused as NotStored}
 use Rattle.image_log.specs.Calls.{answer, after, commit_rules, commit_plan, recover_rules, recover_plan}
-use Rattle.home.specs.declared.Answer.{Answer}
-use Rattle.home.specs.declared.Answer.TheVariants.{Count, Refused}
 use Rattle.gates.specs.declared.Of.{Of}
 use Rattle.gates.specs.Gates.{gate_rules}
 use Rattle.reads.specs.Reads.{count_in, rank_in}
 use Rattle.reads.specs.Merges.{merge_in}
-use Rattle.index.specs.declared.Begun.{Begun}
-use Rattle.index.specs.declared.Begun.TheVariants.{Done as Copied, Refused as NotBegun}
 use Rattle.index.specs.Calls.{begin_call, format_rules, format_plan}
 use Rattle.demands.specs.Sequences.{Edit, edit_call, answer_of, made}
 
@@ -42,28 +38,19 @@ rules_of (recover l n) = recover_rules l
 rules_of (format l L R step n) = format_rules l L R step
 
 -- the refusal that an answer tells
-unfoldable pub of_answer : Answer → Option ℕ
-of_answer (Count n) = none
-of_answer (Refused r) = some r
+unfoldable pub refusal_in : {A : Type 0} → Result A Refusal → Option Refusal
+refusal_in (Ok a) = none
+refusal_in (Err r) = some r
 
-unfoldable pub of_begun : Begun → Option ℕ
-of_begun Copied = none
-of_begun (NotBegun r) = some r
-
-unfoldable pub of_outcome : Outcome → Option ℕ
-of_outcome (Done n) = none
-of_outcome (Cut n) = none
-of_outcome (NotStored r) = some r
-
-unfoldable pub refused_with : Call → Option ℕ
-refused_with (begin l w) = of_begun (answered NotBegun (begin_call l w))
-refused_with (edit e w) = of_answer (answer_of e w)
-refused_with (count of bs t) = of_answer (count_in of bs t)
-refused_with (rank of bs t k) = of_answer (rank_in of bs t k)
-refused_with (merge m of bs t u out) = of_answer (answered Refused (merge_in m of bs t u out))
-refused_with (commit accept l w n) = of_outcome (answer (commit_plan accept l w) n)
-refused_with (recover l n) = of_outcome (answer (recover_plan l) n)
-refused_with (format l L R step n) = of_outcome (answer (format_plan l L R step) n)
+unfoldable pub refused_with : Call → Option Refusal
+refused_with (begin l w) = refusal_in (answered Err (begin_call l w))
+refused_with (edit e w) = refusal_in (answer_of e w)
+refused_with (count of bs t) = refusal_in (count_in of bs t)
+refused_with (rank of bs t k) = refusal_in (rank_in of bs t k)
+refused_with (merge m of bs t u out) = refusal_in (answered Err (merge_in m of bs t u out))
+refused_with (commit accept l w n) = refusal_in (answer (commit_plan accept l w) n)
+refused_with (recover l n) = refusal_in (answer (recover_plan l) n)
+refused_with (format l L R step n) = refusal_in (answer (format_plan l L R step) n)
 
 -- the bytes lent to write
 unfoldable pub lent : Call → List ℕ

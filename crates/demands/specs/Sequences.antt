@@ -1,11 +1,9 @@
 -- Edits one after another in a workspace, and turns of begin, edits and commit at an image.
-use Rattle.std.specs.Prelude.{◌≡◌, List, [], ◌∷◌, ◌++◌, map, ℕ, ◌<◌}
-use Rattle.wire.specs.Rules.{first, Ruled, answered, left}
+use Rattle.std.specs.Prelude.{◌≡◌, List, [], ◌∷◌, ◌++◌, map, ℕ, ◌<◌, Ok, Err}
+use Rattle.refusals.specs.Rules.{first, Ruled, answered, left, Answer}
 use Rattle.records.specs.declared.Record.{Record}
 use Rattle.records.specs.Records.{Fits, insert, remove, amend}
 use Rattle.image_log.specs.Book.{Call, commit, recover, final}
-use Rattle.home.specs.declared.Answer.{Answer}
-use Rattle.home.specs.declared.Answer.TheVariants.{Count, Refused}
 use Rattle.home.specs.Sound.{sound}
 use Rattle.edits.specs.declared.Terminal.{Terminal}
 use Rattle.index.specs.Calls.{begin_call, put_call, delete_call, set_call, drop_call}
@@ -27,7 +25,7 @@ edit_call (set_minutes t k m) w = set_call w t k m
 edit_call (drop_tag t) w = drop_call w t
 
 abbrev pub answer_of : Edit → List ℕ → Answer
-answer_of e w = answered Refused (edit_call e w)
+answer_of e w = answered Err (edit_call e w)
 
 -- the workspace after it
 abbrev pub made : Edit → List ℕ → List ℕ
@@ -65,7 +63,7 @@ RangedIn v = Ranged v.edit
 
 -- it is not refused
 abbrev pub Accepted : Event → Type 0
-Accepted v = (n : ℕ) × (answer_of v.edit v.space ≡ Count n)
+Accepted v = (n : ℕ) × (answer_of v.edit v.space ≡ Ok n)
 
 unfoldable pub events : List Edit → List ℕ → List Event
 events [] w = []

@@ -1,16 +1,17 @@
 -- What each edit keeps, a sequence of edits keeps, and so do turns at an image, wherever their commits and recoveries are cut and caught.
-use Rattle.std.specs.Prelude.{◌≡◌, refl, true, ℕ}
+use Rattle.image_log.specs.declared.Stored.TheVariants.{Done as Committed}
+use Rattle.std.specs.Prelude.{◌≡◌, refl, true, ℕ, Ok, Err}
 use Rattle.std.proofs.Common.{sym, ◌∙◌, arith}
 use Rattle.std.proofs.Math.Path.{ap, subst}
 use Rattle.std.proofs.Math.Option.{none, some}
 use mathlib.Core.List.{List, [], ◌∷◌, ◌++◌}
 use Rattle.wire.specs.Cases.{by_eq}
 use Rattle.wire.specs.All.{All, none as nothing, more, all_append}
-use Rattle.wire.specs.Rules.{refusal, left}
-use Rattle.wire.specs.RulesLaws.{by_refusal, first-refused, first_passed, passes_both}
+use Rattle.refusals.specs.declared.Refusal.{Refusal}
+use Rattle.refusals.specs.Rules.{refusal, left, Answer}
+use Rattle.refusals.specs.RulesLaws.{by_refusal, first-refused, first_passed, passes_both}
 use Rattle.records.specs.declared.Record.{Record}
 use Rattle.redo.specs.Image.{capacity, mark, home, head_ok}
-use Rattle.image_log.specs.declared.Outcome.TheVariants.{Done as Committed}
 use Rattle.image_log.specs.Calls.{answer, after, commit_plan}
 use Rattle.image_log.specs.Book.{Call, commit, recover, allowance, value, plan_of, Book, start, seen, final, next}
 use Rattle.image_log.proofs.BookLaws.{Both, recover_both, commit_both}
@@ -19,8 +20,6 @@ use Rattle.image_log.proofs.Steps.{step}
 use Rattle.image_log.specs.Claim.{Starts}
 use Rattle.image_log.proofs.Claim.{begins, stands_of, done_uncaught}
 use Rattle.layout.specs.PermLaws.{all_left, all_right}
-use Rattle.home.specs.declared.Answer.{Answer}
-use Rattle.home.specs.declared.Answer.TheVariants.{Count, Refused}
 use Rattle.home.specs.Sound.{sound, list_of}
 use Rattle.gates.specs.declared.Of.TheVariants.{Image, Space}
 use Rattle.gates.specs.Gates.{gate_rules}
@@ -34,8 +33,8 @@ use Rattle.demands.specs.Sequences.{Edit, answer_of, made, tag_of, list_by, Rang
 
 -- a sound workspace stays sound
 effect_sound : (w w' : List ℕ) (t : ℕ) (rs : List Record) (a : Answer) → Effect w w' t rs a → sound w ≡ true → sound w' ≡ true
-effect_sound w w' t rs (Count n) d s = d.fine
-effect_sound w w' t rs (Refused n) d s = ap sound d ∙ s
+effect_sound w w' t rs (Ok n) d s = d.fine
+effect_sound w w' t rs (Err n) d s = ap sound d ∙ s
 
 pub edit_sound : (e : Edit) → Ranged e → (w : List ℕ) → sound w ≡ true → sound (made e w) ≡ true
 edit_sound e g w = effect_sound w (made e w) (tag_of e) (list_by e (list_of w (tag_of e))) (answer_of e w) (edit_effect e g w)
@@ -46,12 +45,12 @@ through-sound [] g w s = s
 through-sound (e ∷ es) (more a g) w s = through-sound es g (made e w) (edit_sound e a w s)
 
 -- a tag's list is as before, or the edit is one of this tag, is done, and has made it
-pub by_list : (G : List Record → Type 0) (e : Edit) → Ranged e → (w : List ℕ) (t : ℕ) → G (list_of w t) → ((n : ℕ) → tag_of e ≡ t → answer_of e w ≡ Count n → G (list_by e (list_of w t))) → G (list_of (made e w) t)
+pub by_list : (G : List Record → Type 0) (e : Edit) → Ranged e → (w : List ℕ) (t : ℕ) → G (list_of w t) → ((n : ℕ) → tag_of e ≡ t → answer_of e w ≡ Ok n → G (list_by e (list_of w t))) → G (list_of (made e w) t)
 by_list G e g w t same done = go (answer_of e w) refl (edit_effect e g w)
   where
     go : (a : Answer) → answer_of e w ≡ a → Effect w (made e w) (tag_of e) (list_by e (list_of w (tag_of e))) a → G (list_of (made e w) t)
-    go (Refused n) q d = subst (λ (x : List ℕ). G (list_of x t)) (sym d) same
-    go (Count n) q d = by_eq (tag_of e) t
+    go (Err n) q d = subst (λ (x : List ℕ). G (list_of x t)) (sym d) same
+    go (Ok n) q d = by_eq (tag_of e) t
         (λ i. subst G (sym (ap (list_of (made e w)) (sym i) ∙ d.list ∙ ap (λ (u : ℕ). list_by e (list_of w u)) i)) (done n i q))
         (λ i. subst G (sym (d.others t (λ z. i (sym z)))) same)
 
@@ -70,7 +69,7 @@ events_both (e ∷ es) fs w = ap (◌∷◌ (record { edit = e; space = w })) (e
 
 module _ (l w : List ℕ) (es : List Edit) (n v : ℕ) where
   -- where begin is refused it does nothing
-  pub turn_refused : (r : ℕ) → refusal (begin_call l w).rules ≡ some r → (events_at (turn w es n v) l ≡ []) × (turned (turn w es n v) l ≡ l)
+  pub turn_refused : (r : Refusal) → refusal (begin_call l w).rules ≡ some r → (events_at (turn w es n v) l ≡ []) × (turned (turn w es n v) l ≡ l)
   unfolding events_at calls_at final
   turn_refused r q = (
     first-refused (λ m. []) (begin_call l w).rules r (events es (left (begin_call l w) w)) q,
@@ -88,7 +87,7 @@ module _ (l w : List ℕ) (es : List Edit) (n v : ℕ) where
       )
 
   -- and where the commit is done, that is home, and the image reads as it
-  module _ (q : refusal (begin_call l w).rules ≡ none) (m : ℕ) (d : answer (commit_plan sound l (through es (home l))) n ≡ Committed m) where
+  module _ (q : refusal (begin_call l w).rules ≡ none) (m : ℕ) (d : answer (commit_plan sound l (through es (home l))) n ≡ (Ok (Committed m))) where
     turn_committed : turned (turn w es n v) l ≡ after (commit_plan sound l (through es (home l))) n l
     unfolding seen plan_of allowance value
     turn_committed = (turn_begun q).1 ∙ done_uncaught (commit_plan sound l (through es (home l))) n m v l d

@@ -1,15 +1,13 @@
 -- The step code through the calls: begin copies it, edits keep it, and a home with another code than 0 and 1 is refused.
 -- (Format stores it and a commit takes the workspace's along: Lists.)
-use Rattle.std.specs.Prelude.{◌≡◌, false, ℕ, ◌<◌, List}
+use Rattle.std.specs.Prelude.{◌≡◌, false, ℕ, ◌<◌, List, Ok, Err}
 use Rattle.std.proofs.Common.{ap, arith}
 use Rattle.std.proofs.Math.Option.{none}
 use Rattle.wire.specs.Cases.{by_test}
-use Rattle.wire.specs.Rules.{refusal, left}
-use Rattle.wire.specs.RulesLaws.{first_passed}
+use Rattle.refusals.specs.Rules.{refusal, left, Answer}
+use Rattle.refusals.specs.RulesLaws.{first_passed}
 use Rattle.records.specs.declared.Record.{Record}
 use Rattle.redo.specs.Image.{home}
-use Rattle.home.specs.declared.Answer.{Answer}
-use Rattle.home.specs.declared.Answer.TheVariants.{Count, Refused}
 use Rattle.home.specs.Bytes.{step_of}
 use Rattle.home.specs.Sound.{sound, list_of}
 use Rattle.home.specs.SoundLaws.{sound_code}
@@ -28,8 +26,8 @@ begun_step l w e = ap step_of (first_passed (λ n. w) (begin_call l w).rules (ho
 
 -- an edit keeps it, refused or not
 kept : (w w' : List ℕ) (t : ℕ) (rs : List Record) (a : Answer) → Effect w w' t rs a → step_of w' ≡ step_of w
-kept w w' t rs (Count n) e = e.step
-kept w w' t rs (Refused n) e = ap step_of e
+kept w w' t rs (Ok n) e = e.step
+kept w w' t rs (Err n) e = ap step_of e
 
 pub edit_step : (e : Edit) → Ranged e → (w : List ℕ) → step_of (made e w) ≡ step_of w
 edit_step e g w = kept w (made e w) (tag_of e) (list_by e (list_of w (tag_of e))) (answer_of e w) (edit_effect e g w)

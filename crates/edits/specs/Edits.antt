@@ -1,9 +1,9 @@
 -- The edits of a sound home.
-use Rattle.std.specs.Prelude.{Bool, List, ℕ, ◌+◌, ◌*◌, leb, length}
-use Rattle.wire.specs.Rules.{Ruled}
+use Rattle.std.specs.Prelude.{Bool, List, ℕ, ◌+◌, ◌*◌, leb, length, Ok}
+use Rattle.refusals.specs.declared.Refusal.{Refusal}
+use Rattle.refusals.specs.declared.Refusal.TheVariants.{ListFull, PitFull}
+use Rattle.refusals.specs.Rules.{Answer, Ruled}
 use Rattle.records.specs.declared.Record.{Record}
-use Rattle.home.specs.declared.Answer.{Answer}
-use Rattle.home.specs.declared.Answer.TheVariants.{Count}
 use Rattle.layout.specs.Capacities.{cells}
 use Rattle.layout.specs.Zones.{total}
 use Rattle.layout.specs.Edits.{Edit, delete, set_minutes, drop_tag}
@@ -16,16 +16,16 @@ use Rattle.edits.specs.declared.Terminal.TheVariants.{Desk, Pit}
 
 -- an edit of tag t in home's bytes
 abbrev pub edited : List ℕ → ℕ → Edit → Ruled Answer
-edited h t e = record { rules = e.rules; answer = Count (length e.list); bytes = changed h t e.list }
+edited h t e = record { rules = e.rules; answer = Ok (length e.list); bytes = changed h t e.list }
 
 -- "10: put to a list of 989", "17 a pit put to a list of 64 or more": how many records close a list to a terminal, and the refusal then
 unfoldable pub limit_of : Terminal → ℕ
 limit_of Desk = 989
 limit_of Pit = 64
 
-unfoldable pub full_of : Terminal → ℕ
-full_of Desk = 10
-full_of Pit = 17
+unfoldable pub full_of : Terminal → Refusal
+full_of Desk = ListFull
+full_of Pit = PitFull
 
 -- each on the layout in home's bytes
 abbrev pub put_of : Terminal → List ℕ → ℕ → Record → Edit

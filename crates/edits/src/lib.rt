@@ -7,44 +7,49 @@ ghost use Rattle.home.specs.Bytes.{decode};
 ghost use Rattle.home.specs.Sound.{sound};
 ghost use Rattle.moves.specs.Stored.{Stored};
 ghost use Rattle.lists.specs.Listed.{Listed, Missing};
-ghost use Rattle.wire.specs.Rules.{answered, left};
-ghost use Rattle.edits.specs.Edits.{limit_of, full_of, put_in, delete_in, set_in, drop_in, fits_after};
+ghost use Rattle.refusals.specs.Rules.{answered, left};
+ghost use Rattle.edits.specs.Edits.{put_in, delete_in, set_in, drop_in, fits_after};
 
+use home::AREA;
 use home::buildings::building_full;
-use home::lookup::{TagBlock, block_of, step_of};
-use home::{AREA, Answer};
+use home::lookup::{Block, block_of, step_of};
 use layout::classes::{LONGEST_LIST, capacity, cells, class_of};
 use lists::change::{insert_moving, remove_record};
 use lists::here::{insert_here, set_here};
 use lists::read::search_at;
-use records::{Rank, Record};
+use records::Record;
+use refusals::Refusal;
 use zones::afresh::{settle, total};
 use zones::take::take_out;
 
 // Who puts a call: the desk, or a terminal in the pit.
-#[derive(Clone, Copy)]
+#[derive(Clone, Copy, Debug, PartialEq, Eq)]
 pub enum Terminal {
     Desk,
     Pit,
 }
 
-// How many records close a list to a terminal.
-fn limit(by: Terminal) -> usize
-    ensures { result ≡ limit_of by }
-{
-    match by {
-        Terminal::Desk => 989,
-        Terminal::Pit => 64,
-    }
-}
+impl Terminal {
+    ghost use Rattle.edits.specs.Edits.{limit_of, full_of};
 
-// The refusal of a put to a list that is closed to a terminal.
-fn full(by: Terminal) -> u8
-    ensures { result ≡ full_of by }
-{
-    match by {
-        Terminal::Desk => 10,
-        Terminal::Pit => 17,
+    // How many records close a list to it.
+    fn limit(self) -> usize
+        ensures { result ≡ limit_of self }
+    {
+        match self {
+            Terminal::Desk => 989,
+            Terminal::Pit => 64,
+        }
+    }
+
+    // The refusal of its put to a list that is closed to it.
+    fn full(self) -> Refusal
+        ensures { result ≡ full_of self }
+    {
+        match self {
+            Terminal::Desk => Refusal::ListFull,
+            Terminal::Pit => Refusal::PitFull,
+        }
     }
 }
 
@@ -57,146 +62,144 @@ fn room_after(home: &[u8], step: usize, c: usize, d: usize) -> bool
     total(home, step) + cells(step, d) <= area + cells(step, c)
 }
 
-// Puts a record in at its rank among the n records of the tag's block at cell p.
+// Puts a record in at its rank among the records of the tag's block.
 fn insert_record(
     home: &mut [u8],
     by: Terminal,
     tag: u32,
-    p: usize,
-    n: usize,
+    block: Block,
     j: usize,
     r: Record,
-) -> Answer
-    requires { Missing home.old tag p n j r }
-    ensures value { result ≡ answered Answer.Refused (put_in by home.old tag r) }
+) -> Result<usize, Refusal>
+    requires { Missing home.old tag block.cell block.count j r }
+    ensures value { result ≡ answered Err (put_in by home.old tag r) }
     ensures home_after { home.new ≡ left (put_in by home.old tag r) home.old }
 {
-    if n >= limit(by) {
-        return Answer::Refused(full(by));
+    if block.count >= by.limit() {
+        return Err(by.full());
     }
     let step = step_of(home);
-    let c = class_of(step, n);
-    if n < capacity(step, c) {
-        insert_here(home, p, n, j, r);
-        return Answer::Count(n + 1);
+    let c = class_of(step, block.count);
+    if block.count < capacity(step, c) {
+        insert_here(home, block, j, r);
+        return Ok(block.count + 1);
     }
-    if !room_after(home, step, c, class_of(step, n + 1)) {
-        return Answer::Refused(12);
+    if !room_after(home, step, c, class_of(step, block.count + 1)) {
+        return Err(Refusal::NoRoom);
     }
     let mut aside = [0; LONGEST_LIST];
-    insert_moving(home, tag, p, n, j, r, &mut aside);
-    Answer::Count(n + 1)
+    insert_moving(home, tag, block, j, r, &mut aside);
+    Ok(block.count + 1)
 }
 
-// Puts a record to a tag that has a block of n records at cell p.
-fn put_known(home: &mut [u8], by: Terminal, tag: u32, p: usize, n: usize, r: Record) -> Answer
-    requires { Listed home.old tag p n }
-    ensures value { result ≡ answered Answer.Refused (put_in by home.old tag r) }
+// Puts a record to a tag that has a block.
+fn put_known(
+    home: &mut [u8],
+    by: Terminal,
+    tag: u32,
+    block: Block,
+    r: Record,
+) -> Result<usize, Refusal>
+    requires { Listed home.old tag block.cell block.count }
+    ensures value { result ≡ answered Err (put_in by home.old tag r) }
     ensures home_after { home.new ≡ left (put_in by home.old tag r) home.old }
 {
-    match search_at(home, p, n, records::key_of(r)) {
-        Rank::Found(_) => Answer::Refused(8),
-        Rank::Absent(j) => insert_record(home, by, tag, p, n, j, r),
+    match search_at(home, block, records::key_of(r)) {
+        Ok(_) => Err(Refusal::Listed),
+        Err(j) => insert_record(home, by, tag, block, j, r),
     }
 }
 
 // Puts a record to a tag that has none, which is the same for either terminal.
-fn put_new(home: &mut [u8], tag: u32, r: Record) -> Answer
+fn put_new(home: &mut [u8], tag: u32, r: Record) -> Result<usize, Refusal>
     requires { (sound home.old ≡ true) × (has_tag tag (blocks (decode home.old)) ≡ false) }
-    ensures value { result ≡ answered Answer.Refused (put_in Terminal.Desk home.old tag r) }
+    ensures value { result ≡ answered Err (put_in Terminal.Desk home.old tag r) }
     ensures home_after { home.new ≡ left (put_in Terminal.Desk home.old tag r) home.old }
 {
     if building_full(home, tag) {
-        return Answer::Refused(19);
+        return Err(Refusal::BuildingFull);
     }
     if wire::get16(home, 0) == 256 {
-        return Answer::Refused(11);
+        return Err(Refusal::TagsFull);
     }
     let mut list = [0; 8];
     records::insert(&mut list, 0, r);
     if settle(home, tag, &list) {
-        Answer::Count(1)
+        Ok(1)
     } else {
-        Answer::Refused(12)
+        Err(Refusal::NoRoom)
     }
 }
 
-// Puts a record to a tag's list. Refused: 8, listed already; 10, 989 records, or 17, 64 records for the pit; 19, its building is full; 11, 256 tags; 12, no room.
-pub fn put(home: &mut [u8], by: Terminal, tag: u32, r: Record) -> Answer
+// Puts a record to a tag's list. Refused, in this order: `Listed`; `ListFull` at 989 records, or for the pit `PitFull` at 64; `BuildingFull` and,
+// with 256 tags, `TagsFull` for a new tag; `NoRoom`.
+pub fn put(home: &mut [u8], by: Terminal, tag: u32, r: Record) -> Result<usize, Refusal>
     requires { sound home.old ≡ true }
-    ensures value { result ≡ answered Answer.Refused (put_in by home.old tag r) }
+    ensures value { result ≡ answered Err (put_in by home.old tag r) }
     ensures home_after { home.new ≡ left (put_in by home.old tag r) home.old }
 {
     match block_of(home, tag) {
-        TagBlock::Known(p, n) => put_known(home, by, tag, p, n, r),
-        TagBlock::Unknown => put_new(home, tag, r),
+        Some(block) => put_known(home, by, tag, block, r),
+        None => put_new(home, tag, r),
     }
 }
 
-// Deletes a record of a tag that has a block of n records at cell p.
-fn delete_known(home: &mut [u8], tag: u32, p: usize, n: usize, key: u64) -> Answer
-    requires { Listed home.old tag p n }
-    ensures value { result ≡ answered Answer.Refused (delete_in home.old tag key) }
+// Deletes a record of a tag that has a block.
+fn delete_known(home: &mut [u8], tag: u32, block: Block, key: u64) -> Result<usize, Refusal>
+    requires { Listed home.old tag block.cell block.count }
+    ensures value { result ≡ answered Err (delete_in home.old tag key) }
     ensures home_after { home.new ≡ left (delete_in home.old tag key) home.old }
 {
-    match search_at(home, p, n, key) {
-        Rank::Found(j) => {
-            remove_record(home, tag, p, n, j);
-            Answer::Count(n - 1)
-        }
-        Rank::Absent(_) => Answer::Refused(9),
-    }
+    let j = search_at(home, block, key).or(Err(Refusal::Unknown))?;
+    remove_record(home, tag, block, j);
+    Ok(block.count - 1)
 }
 
-// Deletes the record with this primary part from a tag's list. Refused: 9, no such record.
-pub fn delete(home: &mut [u8], tag: u32, key: u64) -> Answer
+// Deletes the record with this primary part from a tag's list. Refused: `Unknown`, no such record.
+pub fn delete(home: &mut [u8], tag: u32, key: u64) -> Result<usize, Refusal>
     requires { sound home.old ≡ true }
-    ensures value { result ≡ answered Answer.Refused (delete_in home.old tag key) }
+    ensures value { result ≡ answered Err (delete_in home.old tag key) }
     ensures home_after { home.new ≡ left (delete_in home.old tag key) home.old }
 {
-    match block_of(home, tag) {
-        TagBlock::Known(p, n) => delete_known(home, tag, p, n, key),
-        TagBlock::Unknown => Answer::Refused(9),
-    }
+    let block = block_of(home, tag).ok_or(Refusal::Unknown)?;
+    delete_known(home, tag, block, key)
 }
 
-// Sets the minutes of a record of a tag that has a block of n records at cell p.
-fn set_known(home: &mut [u8], tag: u32, p: usize, n: usize, key: u64, minutes: u8) -> Answer
-    requires { Listed home.old tag p n }
-    ensures value { result ≡ answered Answer.Refused (set_in home.old tag key minutes) }
+// Sets the minutes of a record of a tag that has a block.
+fn set_known(
+    home: &mut [u8],
+    tag: u32,
+    block: Block,
+    key: u64,
+    minutes: u8,
+) -> Result<usize, Refusal>
+    requires { Listed home.old tag block.cell block.count }
+    ensures value { result ≡ answered Err (set_in home.old tag key minutes) }
     ensures home_after { home.new ≡ left (set_in home.old tag key minutes) home.old }
 {
-    match search_at(home, p, n, key) {
-        Rank::Found(j) => {
-            set_here(home, p, n, j, minutes);
-            Answer::Count(n)
-        }
-        Rank::Absent(_) => Answer::Refused(9),
-    }
+    let j = search_at(home, block, key).or(Err(Refusal::Unknown))?;
+    set_here(home, block, j, minutes);
+    Ok(block.count)
 }
 
-// Sets the minutes of the record with this primary part in a tag's list. Refused: 9, no such record.
-pub fn set_minutes(home: &mut [u8], tag: u32, key: u64, minutes: u8) -> Answer
+// Sets the minutes of the record with this primary part in a tag's list. Refused: `Unknown`, no such record.
+pub fn set_minutes(home: &mut [u8], tag: u32, key: u64, minutes: u8) -> Result<usize, Refusal>
     requires { sound home.old ≡ true }
-    ensures value { result ≡ answered Answer.Refused (set_in home.old tag key minutes) }
+    ensures value { result ≡ answered Err (set_in home.old tag key minutes) }
     ensures home_after { home.new ≡ left (set_in home.old tag key minutes) home.old }
 {
-    match block_of(home, tag) {
-        TagBlock::Known(p, n) => set_known(home, tag, p, n, key, minutes),
-        TagBlock::Unknown => Answer::Refused(9),
-    }
+    let block = block_of(home, tag).ok_or(Refusal::Unknown)?;
+    set_known(home, tag, block, key, minutes)
 }
 
-// Drops a tag with its list. Refused: 9, no such tag.
-pub fn drop_tag(home: &mut [u8], tag: u32) -> Answer
+// Drops a tag with its list. Refused: `Unknown`, no such tag.
+pub fn drop_tag(home: &mut [u8], tag: u32) -> Result<usize, Refusal>
     requires { sound home.old ≡ true }
-    ensures value { result ≡ answered Answer.Refused (drop_in home.old tag) }
+    ensures value { result ≡ answered Err (drop_in home.old tag) }
     ensures home_after { home.new ≡ left (drop_in home.old tag) home.old }
 {
-    let TagBlock::Known(p, n) = block_of(home, tag) else {
-        return Answer::Refused(9);
-    };
+    let Block { cell, count } = block_of(home, tag).ok_or(Refusal::Unknown)?;
     let step = step_of(home);
-    take_out(home, step, tag, class_of(step, n), p);
-    Answer::Count(0)
+    take_out(home, step, tag, class_of(step, count), cell);
+    Ok(0)
 }

@@ -1,6 +1,9 @@
 -- What a call meets before it does anything: the refusals that whoever lends the bytes can cause; and where home lies in them.
-use Rattle.std.specs.Prelude.{ℕ, not, List, [], ◌∷◌}
-use Rattle.wire.specs.Rules.{Rule, rule}
+use Rattle.std.specs.Prelude.{ℕ, not, List, [], ◌∷◌, Ok, Err}
+use Rattle.std.specs.declared.result.Result.{Result}
+use Rattle.refusals.specs.declared.Refusal.{Refusal}
+use Rattle.refusals.specs.declared.Refusal.TheVariants.{SpaceLength, UnsoundSpace}
+use Rattle.refusals.specs.Rules.{Rule, rule, first}
 use Rattle.redo.specs.Image.{home, home_at}
 use Rattle.image_log.specs.Calls.{image_rules}
 use Rattle.home.specs.Sound.{sized, sound}
@@ -11,7 +14,11 @@ use Rattle.gates.specs.declared.Of.TheVariants.{Image, Space}
 unfoldable pub gate_rules : Of → List ℕ → List Rule
 unfolding image_rules
 gate_rules Image l = image_rules sound l
-gate_rules Space w = rule 6 (not (sized w)) ∷ rule 7 (not (sound w)) ∷ []
+gate_rules Space w = rule SpaceLength (not (sized w)) ∷ rule UnsoundSpace (not (sound w)) ∷ []
+
+-- whether they let the call go on: Ok, or the refusal
+abbrev pub gated : List Rule → Result (Unit {0}) Refusal
+gated rs = first Err rs (Ok tt)
 
 -- home's bytes, and where they begin
 unfoldable pub home_in : Of → List ℕ → List ℕ

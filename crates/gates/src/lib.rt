@@ -3,61 +3,54 @@
 
 ghost use Rattle.std.specs.Prelude.{◌≡◌, ◌+◌};
 ghost use Rattle.std.proofs.Math.Option.{none};
-ghost use Rattle.wire.specs.Rules.{first, refusal};
-ghost use Rattle.gates.specs.Gates.{gate_rules, home_in, home_from};
+ghost use Rattle.refusals.specs.Rules.{refusal};
+ghost use Rattle.gates.specs.Gates.{gate_rules, gated, home_in, home_from};
 
-use image_log::Head;
+use image_log::Mark;
+use refusals::Refusal;
 
 // Which of the two is lent.
-#[derive(Clone, Copy)]
+#[derive(Clone, Copy, Debug, PartialEq, Eq)]
 pub enum Of {
     Image,
     Space,
 }
 
-// Whether a call may go on, or is refused with its number.
-#[derive(Clone, Copy)]
-pub enum Access {
-    Open,
-    Refused(u8),
-}
-
 // An image lent to begin, commit or a read.
-fn image_gate(image: &[u8]) -> Access
-    ensures { result ≡ first Access.Refused (gate_rules Of.Image image.now) Access.Open }
+#[tactic(auto, unfolding(crate::specs::Gates::gate_rules, image_log::specs::Calls::image_rules, image_log::specs::Calls::head_rules, image_log::specs::Head::head_of, refusals::specs::Rules::first))]
+fn image_gate(image: &[u8]) -> Result<(), Refusal>
+    ensures { result ≡ gated (gate_rules Of.Image image.now) }
 {
-    let head = image_log::read_head(image);
-    match head {
-        Head::Bad => Access::Refused(1),
-        Head::Clear => {
+    match image_log::read_head(image)? {
+        Mark::Clear => {
             if sound::sound(image_log::home_behind(image)) {
-                Access::Open
+                Ok(())
             } else {
-                Access::Refused(5)
+                Err(Refusal::UnsoundHome)
             }
         }
-        Head::Committed => Access::Refused(3),
-        Head::Spoiled => Access::Refused(3),
+        Mark::Committed | Mark::Spoiled => Err(Refusal::Unrecovered),
     }
 }
 
 // A workspace lent alone.
-fn space_gate(space: &[u8]) -> Access
-    ensures { result ≡ first Access.Refused (gate_rules Of.Space space.now) Access.Open }
+#[tactic(auto, unfolding(crate::specs::Gates::gate_rules, refusals::specs::Rules::first))]
+fn space_gate(space: &[u8]) -> Result<(), Refusal>
+    ensures { result ≡ gated (gate_rules Of.Space space.now) }
 {
     if !sound::sized(space) {
-        return Access::Refused(6);
+        return Err(Refusal::SpaceLength);
     }
     if sound::sound(space) {
-        Access::Open
+        Ok(())
     } else {
-        Access::Refused(7)
+        Err(Refusal::UnsoundSpace)
     }
 }
 
 // Whether what is lent lets a call go on.
-pub fn gate(of: Of, bytes: &[u8]) -> Access
-    ensures { result ≡ first Access.Refused (gate_rules of bytes.now) Access.Open }
+pub fn gate(of: Of, bytes: &[u8]) -> Result<(), Refusal>
+    ensures { result ≡ gated (gate_rules of bytes.now) }
 {
     match of {
         Of::Image => image_gate(bytes),
@@ -66,6 +59,7 @@ pub fn gate(of: Of, bytes: &[u8]) -> Access
 }
 
 // Home: the last 26 + R pages of an image, or a whole workspace.
+#[tactic(auto, using(crate::specs::GatesLaws::image_open), unfolding(crate::specs::Gates::home_in, crate::specs::Gates::home_from))]
 pub fn home(of: Of, bytes: &[u8]) -> &[u8]
     requires { refusal (gate_rules of bytes.now) ≡ none }
     ensures result_value { result.now ≡ home_in of bytes.now }

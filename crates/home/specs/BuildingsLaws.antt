@@ -7,6 +7,7 @@ use native.Mathlib.Omega.{arith}
 use Rattle.std.proofs.lemmas.Bool.{lt-leb}
 use Rattle.wire.specs.Bytes.{get16}
 use Rattle.wire.specs.Cases.{by_eq}
+use Rattle.std.specs.Int.{from_bool}
 use Rattle.records.specs.Records.{tally}
 use Rattle.records.specs.Order.{tally-small}
 use Rattle.layout.specs.Zones.{blocks, tags}
@@ -88,6 +89,12 @@ module _ (h : List ℕ) where
         ∙ sym (lt-leb 8 (of (at i) i) (omega (arith, ap (of (at i)) q, of_few (at i) (i - 7) 7, of_none (at i) (i - 7) (λ j hi e. d (omega (arith, e, rise j (i - 8) (omega arith) (omega arith), rise (i - 8) i (omega arith) b)))))))
 
 -- ---- the pass
+
+-- what the code adds for an entry
+pub tally_is : (x : ℕ) (b : Bool) → x ≡ from_bool b → x ≡ tally b
+unfolding tally
+tally_is x true e = e
+tally_is x false e = e
 
 pub at_most_one : (x : ℕ) (b : Bool) → x ≡ tally b → x ≤ 1
 at_most_one x b e = omega (arith, e, tally-small b)

@@ -26,7 +26,7 @@ coarse_zone area c e (suc i) (from f x xs ∷ zs) l g = coarse_zone area (suc c)
 empty_entry : (h : List ℕ) (c i k : ℕ) (zs : List Zone) → k ≡ c + i → Entries h c zs → i < length zs → get_or zs i empty ≡ empty → (first_at h k ≡ 0) × (many_at h k ≡ 0)
 empty_entry h c i k [] q d g e = absurd (omega arith)
 empty_entry h c zero k (empty ∷ zs) q d g e = let p : k ≡ c = omega arith in rw p (d.0, d.1)
-empty_entry h c zero k (from f x xs ∷ zs) q d g e = let z : ◌≡◌ {A = ℕ} 0 1 = cc in absurd (omega arith)
+empty_entry h c zero k (from f x xs ∷ zs) q d g e = cc
 empty_entry h c (suc i) k (empty ∷ zs) q d g e = empty_entry h (suc c) i k zs (omega arith) d.2 (omega arith) e
 empty_entry h c (suc i) k (from f x xs ∷ zs) q d g e = empty_entry h (suc c) i k zs (omega arith) d.2 (omega arith) e
 

@@ -1,8 +1,8 @@
 -- Bench cases 1 to 7 of the specification, and edits worked out by an independent model, as tables that the checker computes.
-use Rattle.std.specs.Prelude.{◌≡◌, refl, Bool, true, false, not, ◌&&◌, List, [], ◌∷◌, ◌++◌, ℕ, length, set, replicate}
+use Rattle.refusals.specs.declared.Refusal.TheVariants.{Listed, Unknown, ListFull, NoRoom}
+use Rattle.std.specs.Prelude.{◌≡◌, refl, Bool, true, false, not, ◌&&◌, List, [], ◌∷◌, ◌++◌, ℕ, length, set, replicate, Ok, Err}
 use Rattle.std.proofs.Math.Option.{get_or}
 use Rattle.wire.specs.Bytes.{part, blank, equal}
-use Rattle.wire.specs.Rules.{first}
 use Rattle.records.specs.declared.Record.{Record}
 use Rattle.records.specs.Records.{key, look, insert, remove, amend, bytes_of, rising_from, record_at}
 use Rattle.layout.specs.Capacities.{capacity, cells, class_of}
@@ -12,8 +12,7 @@ use Rattle.layout.specs.Buildings.{building_full}
 use Rattle.home.specs.Bytes.{Entry, dictionary, encode, decode, zones_from}
 use Rattle.layout.specs.Valid.{valid}
 use Rattle.home.specs.Sound.{sound}
-use Rattle.home.specs.declared.Answer.{Answer}
-use Rattle.home.specs.declared.Answer.TheVariants.{Count, Refused}
+use Rattle.refusals.specs.Rules.{Answer, number_of, first}
 use Rattle.home.specs.Layout.{put}
 use Rattle.layout.specs.Edits.{Edit, put as put_by, delete, set_minutes, drop_tag}
 
@@ -44,7 +43,7 @@ tag_of (dropping t) = t
 
 made : (step : ℕ) → ℕ → Asked → List Zone → Edit
 unfolding of put_by delete set_minutes drop_tag key
-made step n (putting t l s p m) zs = put step n 989 10 t (of l s p m) zs
+made step n (putting t l s p m) zs = put step n 989 ListFull t (of l s p m) zs
 made step n (deleting t l s p) zs = delete t (key (of l s p 0)) zs
 made step n (setting t l s p m) zs = set_minutes t (key (of l s p 0)) m zs
 made step n (dropping t) zs = drop_tag t zs
@@ -52,7 +51,7 @@ made step n (dropping t) zs = drop_tag t zs
 -- what an edit answers, and the layout after it
 answer : Edit → Answer
 unfolding first
-answer e = first Refused e.rules (Count (length e.list))
+answer e = first Err e.rules (Ok (length e.list))
 
 layout : (step : ℕ) → ℕ → Asked → List Zone → List Zone
 unfolding made tag_of first
@@ -60,8 +59,8 @@ layout step n a zs = first (λ r. zs) (made step n a zs).rules (get_or (change (
 
 -- answers and what is shown, as numbers
 answered : Answer → List ℕ
-answered (Count n) = 0 ∷ n ∷ []
-answered (Refused n) = 1 ∷ n ∷ []
+answered (Ok n) = 0 ∷ n ∷ []
+answered (Err r) = 1 ∷ number_of r ∷ []
 
 shown : List Shown → List ℕ
 shown [] = []
@@ -86,30 +85,30 @@ follow step n zs (r ∷ rs) =
 bench : List Row
 bench =
     -- case 1
-    record { edit = putting 7 0 1 0 0; answer = Count 1; after = at 7 0 0 1 ∷ [] } ∷
-    record { edit = putting 9 0 1 0 0; answer = Count 1; after = at 7 0 0 1 ∷ at 9 5 0 1 ∷ [] } ∷
+    record { edit = putting 7 0 1 0 0; answer = Ok 1; after = at 7 0 0 1 ∷ [] } ∷
+    record { edit = putting 9 0 1 0 0; answer = Ok 1; after = at 7 0 0 1 ∷ at 9 5 0 1 ∷ [] } ∷
     -- case 2
-    record { edit = putting 7 0 2 0 0; answer = Count 2; after = at 7 0 0 2 ∷ at 9 5 0 1 ∷ [] } ∷
-    record { edit = putting 7 0 3 0 0; answer = Count 3; after = at 7 0 0 3 ∷ at 9 5 0 1 ∷ [] } ∷
-    record { edit = putting 7 0 4 0 0; answer = Count 4; after = at 7 0 0 4 ∷ at 9 5 0 1 ∷ [] } ∷
-    record { edit = putting 7 0 5 0 0; answer = Count 5; after = at 7 5 1 5 ∷ at 9 0 0 1 ∷ [] } ∷
+    record { edit = putting 7 0 2 0 0; answer = Ok 2; after = at 7 0 0 2 ∷ at 9 5 0 1 ∷ [] } ∷
+    record { edit = putting 7 0 3 0 0; answer = Ok 3; after = at 7 0 0 3 ∷ at 9 5 0 1 ∷ [] } ∷
+    record { edit = putting 7 0 4 0 0; answer = Ok 4; after = at 7 0 0 4 ∷ at 9 5 0 1 ∷ [] } ∷
+    record { edit = putting 7 0 5 0 0; answer = Ok 5; after = at 7 5 1 5 ∷ at 9 0 0 1 ∷ [] } ∷
     -- case 3
-    record { edit = putting 11 0 1 0 0; answer = Count 1; after = at 7 10 1 5 ∷ at 9 0 0 1 ∷ at 11 5 0 1 ∷ [] } ∷
+    record { edit = putting 11 0 1 0 0; answer = Ok 1; after = at 7 10 1 5 ∷ at 9 0 0 1 ∷ at 11 5 0 1 ∷ [] } ∷
     -- case 4
-    record { edit = putting 13 0 1 0 0; answer = Refused 12; after = at 7 10 1 5 ∷ at 9 0 0 1 ∷ at 11 5 0 1 ∷ [] } ∷
+    record { edit = putting 13 0 1 0 0; answer = Err NoRoom; after = at 7 10 1 5 ∷ at 9 0 0 1 ∷ at 11 5 0 1 ∷ [] } ∷
     -- case 5
-    record { edit = deleting 7 0 3 0; answer = Count 4; after = at 7 10 0 4 ∷ at 9 0 0 1 ∷ at 11 5 0 1 ∷ [] } ∷
-    record { edit = putting 13 0 1 0 0; answer = Refused 12; after = at 7 10 0 4 ∷ at 9 0 0 1 ∷ at 11 5 0 1 ∷ [] } ∷
+    record { edit = deleting 7 0 3 0; answer = Ok 4; after = at 7 10 0 4 ∷ at 9 0 0 1 ∷ at 11 5 0 1 ∷ [] } ∷
+    record { edit = putting 13 0 1 0 0; answer = Err NoRoom; after = at 7 10 0 4 ∷ at 9 0 0 1 ∷ at 11 5 0 1 ∷ [] } ∷
     -- case 6
-    record { edit = dropping 9; answer = Count 0; after = at 7 0 0 4 ∷ at 11 5 0 1 ∷ [] } ∷
-    record { edit = putting 13 0 1 0 0; answer = Count 1; after = at 7 0 0 4 ∷ at 11 5 0 1 ∷ at 13 10 0 1 ∷ [] } ∷
+    record { edit = dropping 9; answer = Ok 0; after = at 7 0 0 4 ∷ at 11 5 0 1 ∷ [] } ∷
+    record { edit = putting 13 0 1 0 0; answer = Ok 1; after = at 7 0 0 4 ∷ at 11 5 0 1 ∷ at 13 10 0 1 ∷ [] } ∷
     -- case 7, after four puts that bring tag 13 to class 1
-    record { edit = putting 13 0 2 0 0; answer = Count 2; after = at 7 0 0 4 ∷ at 11 5 0 1 ∷ at 13 10 0 2 ∷ [] } ∷
-    record { edit = putting 13 0 3 0 0; answer = Count 3; after = at 7 0 0 4 ∷ at 11 5 0 1 ∷ at 13 10 0 3 ∷ [] } ∷
-    record { edit = putting 13 0 4 0 0; answer = Count 4; after = at 7 0 0 4 ∷ at 11 5 0 1 ∷ at 13 10 0 4 ∷ [] } ∷
-    record { edit = putting 13 0 5 0 0; answer = Count 5; after = at 7 0 0 4 ∷ at 11 5 0 1 ∷ at 13 10 1 5 ∷ [] } ∷
-    record { edit = dropping 7; answer = Count 0; after = at 11 0 0 1 ∷ at 13 10 1 5 ∷ [] } ∷
-    record { edit = dropping 11; answer = Count 0; after = at 13 4 1 5 ∷ [] } ∷
+    record { edit = putting 13 0 2 0 0; answer = Ok 2; after = at 7 0 0 4 ∷ at 11 5 0 1 ∷ at 13 10 0 2 ∷ [] } ∷
+    record { edit = putting 13 0 3 0 0; answer = Ok 3; after = at 7 0 0 4 ∷ at 11 5 0 1 ∷ at 13 10 0 3 ∷ [] } ∷
+    record { edit = putting 13 0 4 0 0; answer = Ok 4; after = at 7 0 0 4 ∷ at 11 5 0 1 ∷ at 13 10 0 4 ∷ [] } ∷
+    record { edit = putting 13 0 5 0 0; answer = Ok 5; after = at 7 0 0 4 ∷ at 11 5 0 1 ∷ at 13 10 1 5 ∷ [] } ∷
+    record { edit = dropping 7; answer = Ok 0; after = at 11 0 0 1 ∷ at 13 10 1 5 ∷ [] } ∷
+    record { edit = dropping 11; answer = Ok 0; after = at 13 4 1 5 ∷ [] } ∷
     []
 
 bench_holds : follow 0 16 (replicate 30 empty) bench ≡ true
@@ -120,15 +119,15 @@ bench_holds = refl
 outgrown : List Row
 outgrown =
     -- case 1
-    record { edit = putting 7 0 1 0 0; answer = Count 1; after = at 7 0 0 1 ∷ [] } ∷
-    record { edit = putting 9 0 1 0 0; answer = Count 1; after = at 7 0 0 1 ∷ at 9 5 0 1 ∷ [] } ∷
+    record { edit = putting 7 0 1 0 0; answer = Ok 1; after = at 7 0 0 1 ∷ [] } ∷
+    record { edit = putting 9 0 1 0 0; answer = Ok 1; after = at 7 0 0 1 ∷ at 9 5 0 1 ∷ [] } ∷
     -- case 2
-    record { edit = putting 7 0 2 0 0; answer = Count 2; after = at 7 0 0 2 ∷ at 9 5 0 1 ∷ [] } ∷
-    record { edit = putting 7 0 3 0 0; answer = Count 3; after = at 7 0 0 3 ∷ at 9 5 0 1 ∷ [] } ∷
-    record { edit = putting 7 0 4 0 0; answer = Count 4; after = at 7 0 0 4 ∷ at 9 5 0 1 ∷ [] } ∷
-    record { edit = putting 7 0 5 0 0; answer = Count 5; after = at 7 5 1 5 ∷ at 9 0 0 1 ∷ [] } ∷
+    record { edit = putting 7 0 2 0 0; answer = Ok 2; after = at 7 0 0 2 ∷ at 9 5 0 1 ∷ [] } ∷
+    record { edit = putting 7 0 3 0 0; answer = Ok 3; after = at 7 0 0 3 ∷ at 9 5 0 1 ∷ [] } ∷
+    record { edit = putting 7 0 4 0 0; answer = Ok 4; after = at 7 0 0 4 ∷ at 9 5 0 1 ∷ [] } ∷
+    record { edit = putting 7 0 5 0 0; answer = Ok 5; after = at 7 5 1 5 ∷ at 9 0 0 1 ∷ [] } ∷
     -- case 3
-    record { edit = putting 11 0 1 0 0; answer = Refused 12; after = at 7 5 1 5 ∷ at 9 0 0 1 ∷ [] } ∷
+    record { edit = putting 11 0 1 0 0; answer = Err NoRoom; after = at 7 5 1 5 ∷ at 9 0 0 1 ∷ [] } ∷
     []
 
 bench_coarse : List Row
@@ -136,20 +135,20 @@ bench_coarse =
     outgrown
     ++ (
     -- case 4
-    record { edit = putting 13 0 1 0 0; answer = Refused 12; after = at 7 5 1 5 ∷ at 9 0 0 1 ∷ [] } ∷
+    record { edit = putting 13 0 1 0 0; answer = Err NoRoom; after = at 7 5 1 5 ∷ at 9 0 0 1 ∷ [] } ∷
     -- case 5
-    record { edit = deleting 7 0 3 0; answer = Count 4; after = at 7 5 0 4 ∷ at 9 0 0 1 ∷ [] } ∷
-    record { edit = putting 13 0 1 0 0; answer = Count 1; after = at 7 5 0 4 ∷ at 9 0 0 1 ∷ at 13 10 0 1 ∷ [] } ∷
+    record { edit = deleting 7 0 3 0; answer = Ok 4; after = at 7 5 0 4 ∷ at 9 0 0 1 ∷ [] } ∷
+    record { edit = putting 13 0 1 0 0; answer = Ok 1; after = at 7 5 0 4 ∷ at 9 0 0 1 ∷ at 13 10 0 1 ∷ [] } ∷
     -- case 6
-    record { edit = dropping 9; answer = Count 0; after = at 7 5 0 4 ∷ at 13 0 0 1 ∷ [] } ∷
-    record { edit = putting 13 0 1 0 0; answer = Refused 8; after = at 7 5 0 4 ∷ at 13 0 0 1 ∷ [] } ∷
+    record { edit = dropping 9; answer = Ok 0; after = at 7 5 0 4 ∷ at 13 0 0 1 ∷ [] } ∷
+    record { edit = putting 13 0 1 0 0; answer = Err Listed; after = at 7 5 0 4 ∷ at 13 0 0 1 ∷ [] } ∷
     -- case 7
-    record { edit = putting 13 0 2 0 0; answer = Count 2; after = at 7 5 0 4 ∷ at 13 0 0 2 ∷ [] } ∷
-    record { edit = putting 13 0 3 0 0; answer = Count 3; after = at 7 5 0 4 ∷ at 13 0 0 3 ∷ [] } ∷
-    record { edit = putting 13 0 4 0 0; answer = Count 4; after = at 7 5 0 4 ∷ at 13 0 0 4 ∷ [] } ∷
-    record { edit = putting 13 0 5 0 0; answer = Count 5; after = at 7 0 0 4 ∷ at 13 5 1 5 ∷ [] } ∷
-    record { edit = dropping 7; answer = Count 0; after = at 13 5 1 5 ∷ [] } ∷
-    record { edit = dropping 11; answer = Refused 9; after = at 13 5 1 5 ∷ [] } ∷
+    record { edit = putting 13 0 2 0 0; answer = Ok 2; after = at 7 5 0 4 ∷ at 13 0 0 2 ∷ [] } ∷
+    record { edit = putting 13 0 3 0 0; answer = Ok 3; after = at 7 5 0 4 ∷ at 13 0 0 3 ∷ [] } ∷
+    record { edit = putting 13 0 4 0 0; answer = Ok 4; after = at 7 5 0 4 ∷ at 13 0 0 4 ∷ [] } ∷
+    record { edit = putting 13 0 5 0 0; answer = Ok 5; after = at 7 0 0 4 ∷ at 13 5 1 5 ∷ [] } ∷
+    record { edit = dropping 7; answer = Ok 0; after = at 13 5 1 5 ∷ [] } ∷
+    record { edit = dropping 11; answer = Err Unknown; after = at 13 5 1 5 ∷ [] } ∷
     [])
 
 bench_coarse_holds : follow 1 16 (replicate 30 empty) bench_coarse ≡ true
@@ -161,9 +160,9 @@ grown : List Row
 grown =
     outgrown
     ++ (
-    record { edit = putting 7 0 6 0 0; answer = Count 6; after = at 7 5 1 6 ∷ at 9 0 0 1 ∷ [] } ∷
-    record { edit = putting 7 0 7 0 0; answer = Count 7; after = at 7 5 1 7 ∷ at 9 0 0 1 ∷ [] } ∷
-    record { edit = putting 7 0 8 0 0; answer = Refused 12; after = at 7 5 1 7 ∷ at 9 0 0 1 ∷ [] } ∷
+    record { edit = putting 7 0 6 0 0; answer = Ok 6; after = at 7 5 1 6 ∷ at 9 0 0 1 ∷ [] } ∷
+    record { edit = putting 7 0 7 0 0; answer = Ok 7; after = at 7 5 1 7 ∷ at 9 0 0 1 ∷ [] } ∷
+    record { edit = putting 7 0 8 0 0; answer = Err NoRoom; after = at 7 5 1 7 ∷ at 9 0 0 1 ∷ [] } ∷
     [])
 
 grown_holds : follow 1 16 (replicate 30 empty) grown ≡ true
@@ -198,56 +197,56 @@ judged h (r ∷ rs) = same r.fine (sound (poked h r.pokes)) && judged h rs
 -- the first edits that the model was given with R = 2
 model : List Row
 model =
-    record { edit = setting 0 0 0 2 81; answer = Refused 9; after = [] } ∷
-    record { edit = deleting 11 0 2 2; answer = Refused 9; after = [] } ∷
-    record { edit = putting 0 0 0 0 23; answer = Count 1; after = at 0 0 0 1 ∷ [] } ∷
-    record { edit = deleting 0 1 1 2; answer = Refused 9; after = at 0 0 0 1 ∷ [] } ∷
-    record { edit = putting 4294967295 1 2 0 153; answer = Count 1; after = at 0 0 0 1 ∷ at 4294967295 5 0 1 ∷ [] } ∷
-    record { edit = putting 9 0 0 0 201; answer = Count 1; after = at 0 0 0 1 ∷ at 9 10 0 1 ∷ at 4294967295 5 0 1 ∷ [] } ∷
-    record { edit = putting 7 1 2 2 179; answer = Refused 12; after = at 0 0 0 1 ∷ at 9 10 0 1 ∷ at 4294967295 5 0 1 ∷ [] } ∷
-    record { edit = dropping 11; answer = Refused 9; after = at 0 0 0 1 ∷ at 9 10 0 1 ∷ at 4294967295 5 0 1 ∷ [] } ∷
-    record { edit = putting 0 0 0 2 48; answer = Count 2; after = at 0 0 0 2 ∷ at 9 10 0 1 ∷ at 4294967295 5 0 1 ∷ [] } ∷
-    record { edit = deleting 4294967295 0 0 2; answer = Refused 9; after = at 0 0 0 2 ∷ at 9 10 0 1 ∷ at 4294967295 5 0 1 ∷ [] } ∷
-    record { edit = putting 0 0 0 0 185; answer = Refused 8; after = at 0 0 0 2 ∷ at 9 10 0 1 ∷ at 4294967295 5 0 1 ∷ [] } ∷
-    record { edit = putting 9 0 2 0 240; answer = Count 2; after = at 0 0 0 2 ∷ at 9 10 0 2 ∷ at 4294967295 5 0 1 ∷ [] } ∷
-    record { edit = putting 9 0 0 0 209; answer = Refused 8; after = at 0 0 0 2 ∷ at 9 10 0 2 ∷ at 4294967295 5 0 1 ∷ [] } ∷
-    record { edit = deleting 13 1 2 2; answer = Refused 9; after = at 0 0 0 2 ∷ at 9 10 0 2 ∷ at 4294967295 5 0 1 ∷ [] } ∷
-    record { edit = putting 0 0 0 2 100; answer = Refused 8; after = at 0 0 0 2 ∷ at 9 10 0 2 ∷ at 4294967295 5 0 1 ∷ [] } ∷
-    record { edit = putting 9 1 1 0 115; answer = Count 3; after = at 0 0 0 2 ∷ at 9 10 0 3 ∷ at 4294967295 5 0 1 ∷ [] } ∷
-    record { edit = deleting 11 0 2 0; answer = Refused 9; after = at 0 0 0 2 ∷ at 9 10 0 3 ∷ at 4294967295 5 0 1 ∷ [] } ∷
-    record { edit = putting 0 0 2 0 75; answer = Count 3; after = at 0 0 0 3 ∷ at 9 10 0 3 ∷ at 4294967295 5 0 1 ∷ [] } ∷
-    record { edit = deleting 9 0 0 2; answer = Refused 9; after = at 0 0 0 3 ∷ at 9 10 0 3 ∷ at 4294967295 5 0 1 ∷ [] } ∷
-    record { edit = putting 0 0 0 2 23; answer = Refused 8; after = at 0 0 0 3 ∷ at 9 10 0 3 ∷ at 4294967295 5 0 1 ∷ [] } ∷
-    record { edit = putting 11 1 0 2 90; answer = Refused 12; after = at 0 0 0 3 ∷ at 9 10 0 3 ∷ at 4294967295 5 0 1 ∷ [] } ∷
-    record { edit = putting 13 1 2 0 162; answer = Refused 12; after = at 0 0 0 3 ∷ at 9 10 0 3 ∷ at 4294967295 5 0 1 ∷ [] } ∷
-    record { edit = setting 9 1 1 0 59; answer = Count 3; after = at 0 0 0 3 ∷ at 9 10 0 3 ∷ at 4294967295 5 0 1 ∷ [] } ∷
-    record { edit = putting 9 0 0 0 99; answer = Refused 8; after = at 0 0 0 3 ∷ at 9 10 0 3 ∷ at 4294967295 5 0 1 ∷ [] } ∷
-    record { edit = putting 0 1 2 1 3; answer = Count 4; after = at 0 0 0 4 ∷ at 9 10 0 3 ∷ at 4294967295 5 0 1 ∷ [] } ∷
-    record { edit = putting 13 0 0 1 253; answer = Refused 12; after = at 0 0 0 4 ∷ at 9 10 0 3 ∷ at 4294967295 5 0 1 ∷ [] } ∷
-    record { edit = putting 7 0 1 2 222; answer = Refused 12; after = at 0 0 0 4 ∷ at 9 10 0 3 ∷ at 4294967295 5 0 1 ∷ [] } ∷
-    record { edit = setting 13 1 2 0 213; answer = Refused 9; after = at 0 0 0 4 ∷ at 9 10 0 3 ∷ at 4294967295 5 0 1 ∷ [] } ∷
-    record { edit = setting 0 0 2 2 165; answer = Refused 9; after = at 0 0 0 4 ∷ at 9 10 0 3 ∷ at 4294967295 5 0 1 ∷ [] } ∷
-    record { edit = deleting 0 1 2 0; answer = Refused 9; after = at 0 0 0 4 ∷ at 9 10 0 3 ∷ at 4294967295 5 0 1 ∷ [] } ∷
-    record { edit = putting 0 1 0 2 166; answer = Count 5; after = at 0 10 1 5 ∷ at 9 0 0 3 ∷ at 4294967295 5 0 1 ∷ [] } ∷
-    record { edit = dropping 13; answer = Refused 9; after = at 0 10 1 5 ∷ at 9 0 0 3 ∷ at 4294967295 5 0 1 ∷ [] } ∷
-    record { edit = putting 4294967295 1 1 0 163; answer = Count 2; after = at 0 10 1 5 ∷ at 9 0 0 3 ∷ at 4294967295 5 0 2 ∷ [] } ∷
-    record { edit = putting 9 0 2 1 159; answer = Count 4; after = at 0 10 1 5 ∷ at 9 0 0 4 ∷ at 4294967295 5 0 2 ∷ [] } ∷
-    record { edit = putting 11 1 1 2 14; answer = Refused 12; after = at 0 10 1 5 ∷ at 9 0 0 4 ∷ at 4294967295 5 0 2 ∷ [] } ∷
-    record { edit = deleting 13 1 1 2; answer = Refused 9; after = at 0 10 1 5 ∷ at 9 0 0 4 ∷ at 4294967295 5 0 2 ∷ [] } ∷
-    record { edit = dropping 7; answer = Refused 9; after = at 0 10 1 5 ∷ at 9 0 0 4 ∷ at 4294967295 5 0 2 ∷ [] } ∷
-    record { edit = setting 13 1 0 1 70; answer = Refused 9; after = at 0 10 1 5 ∷ at 9 0 0 4 ∷ at 4294967295 5 0 2 ∷ [] } ∷
-    record { edit = deleting 0 0 1 2; answer = Refused 9; after = at 0 10 1 5 ∷ at 9 0 0 4 ∷ at 4294967295 5 0 2 ∷ [] } ∷
-    record { edit = putting 0 1 2 1 13; answer = Refused 8; after = at 0 10 1 5 ∷ at 9 0 0 4 ∷ at 4294967295 5 0 2 ∷ [] } ∷
-    record { edit = deleting 13 0 2 0; answer = Refused 9; after = at 0 10 1 5 ∷ at 9 0 0 4 ∷ at 4294967295 5 0 2 ∷ [] } ∷
-    record { edit = putting 11 1 1 2 213; answer = Refused 12; after = at 0 10 1 5 ∷ at 9 0 0 4 ∷ at 4294967295 5 0 2 ∷ [] } ∷
-    record { edit = deleting 7 1 2 1; answer = Refused 9; after = at 0 10 1 5 ∷ at 9 0 0 4 ∷ at 4294967295 5 0 2 ∷ [] } ∷
-    record { edit = dropping 0; answer = Count 0; after = at 9 0 0 4 ∷ at 4294967295 5 0 2 ∷ [] } ∷
-    record { edit = putting 9 1 1 0 186; answer = Refused 8; after = at 9 0 0 4 ∷ at 4294967295 5 0 2 ∷ [] } ∷
-    record { edit = putting 9 0 0 2 59; answer = Count 5; after = at 9 5 1 5 ∷ at 4294967295 0 0 2 ∷ [] } ∷
-    record { edit = setting 11 0 0 0 94; answer = Refused 9; after = at 9 5 1 5 ∷ at 4294967295 0 0 2 ∷ [] } ∷
-    record { edit = deleting 13 0 2 0; answer = Refused 9; after = at 9 5 1 5 ∷ at 4294967295 0 0 2 ∷ [] } ∷
-    record { edit = putting 9 0 1 1 193; answer = Count 6; after = at 9 5 2 6 ∷ at 4294967295 0 0 2 ∷ [] } ∷
-    record { edit = putting 11 1 0 1 147; answer = Refused 12; after = at 9 5 2 6 ∷ at 4294967295 0 0 2 ∷ [] } ∷
+    record { edit = setting 0 0 0 2 81; answer = Err Unknown; after = [] } ∷
+    record { edit = deleting 11 0 2 2; answer = Err Unknown; after = [] } ∷
+    record { edit = putting 0 0 0 0 23; answer = Ok 1; after = at 0 0 0 1 ∷ [] } ∷
+    record { edit = deleting 0 1 1 2; answer = Err Unknown; after = at 0 0 0 1 ∷ [] } ∷
+    record { edit = putting 4294967295 1 2 0 153; answer = Ok 1; after = at 0 0 0 1 ∷ at 4294967295 5 0 1 ∷ [] } ∷
+    record { edit = putting 9 0 0 0 201; answer = Ok 1; after = at 0 0 0 1 ∷ at 9 10 0 1 ∷ at 4294967295 5 0 1 ∷ [] } ∷
+    record { edit = putting 7 1 2 2 179; answer = Err NoRoom; after = at 0 0 0 1 ∷ at 9 10 0 1 ∷ at 4294967295 5 0 1 ∷ [] } ∷
+    record { edit = dropping 11; answer = Err Unknown; after = at 0 0 0 1 ∷ at 9 10 0 1 ∷ at 4294967295 5 0 1 ∷ [] } ∷
+    record { edit = putting 0 0 0 2 48; answer = Ok 2; after = at 0 0 0 2 ∷ at 9 10 0 1 ∷ at 4294967295 5 0 1 ∷ [] } ∷
+    record { edit = deleting 4294967295 0 0 2; answer = Err Unknown; after = at 0 0 0 2 ∷ at 9 10 0 1 ∷ at 4294967295 5 0 1 ∷ [] } ∷
+    record { edit = putting 0 0 0 0 185; answer = Err Listed; after = at 0 0 0 2 ∷ at 9 10 0 1 ∷ at 4294967295 5 0 1 ∷ [] } ∷
+    record { edit = putting 9 0 2 0 240; answer = Ok 2; after = at 0 0 0 2 ∷ at 9 10 0 2 ∷ at 4294967295 5 0 1 ∷ [] } ∷
+    record { edit = putting 9 0 0 0 209; answer = Err Listed; after = at 0 0 0 2 ∷ at 9 10 0 2 ∷ at 4294967295 5 0 1 ∷ [] } ∷
+    record { edit = deleting 13 1 2 2; answer = Err Unknown; after = at 0 0 0 2 ∷ at 9 10 0 2 ∷ at 4294967295 5 0 1 ∷ [] } ∷
+    record { edit = putting 0 0 0 2 100; answer = Err Listed; after = at 0 0 0 2 ∷ at 9 10 0 2 ∷ at 4294967295 5 0 1 ∷ [] } ∷
+    record { edit = putting 9 1 1 0 115; answer = Ok 3; after = at 0 0 0 2 ∷ at 9 10 0 3 ∷ at 4294967295 5 0 1 ∷ [] } ∷
+    record { edit = deleting 11 0 2 0; answer = Err Unknown; after = at 0 0 0 2 ∷ at 9 10 0 3 ∷ at 4294967295 5 0 1 ∷ [] } ∷
+    record { edit = putting 0 0 2 0 75; answer = Ok 3; after = at 0 0 0 3 ∷ at 9 10 0 3 ∷ at 4294967295 5 0 1 ∷ [] } ∷
+    record { edit = deleting 9 0 0 2; answer = Err Unknown; after = at 0 0 0 3 ∷ at 9 10 0 3 ∷ at 4294967295 5 0 1 ∷ [] } ∷
+    record { edit = putting 0 0 0 2 23; answer = Err Listed; after = at 0 0 0 3 ∷ at 9 10 0 3 ∷ at 4294967295 5 0 1 ∷ [] } ∷
+    record { edit = putting 11 1 0 2 90; answer = Err NoRoom; after = at 0 0 0 3 ∷ at 9 10 0 3 ∷ at 4294967295 5 0 1 ∷ [] } ∷
+    record { edit = putting 13 1 2 0 162; answer = Err NoRoom; after = at 0 0 0 3 ∷ at 9 10 0 3 ∷ at 4294967295 5 0 1 ∷ [] } ∷
+    record { edit = setting 9 1 1 0 59; answer = Ok 3; after = at 0 0 0 3 ∷ at 9 10 0 3 ∷ at 4294967295 5 0 1 ∷ [] } ∷
+    record { edit = putting 9 0 0 0 99; answer = Err Listed; after = at 0 0 0 3 ∷ at 9 10 0 3 ∷ at 4294967295 5 0 1 ∷ [] } ∷
+    record { edit = putting 0 1 2 1 3; answer = Ok 4; after = at 0 0 0 4 ∷ at 9 10 0 3 ∷ at 4294967295 5 0 1 ∷ [] } ∷
+    record { edit = putting 13 0 0 1 253; answer = Err NoRoom; after = at 0 0 0 4 ∷ at 9 10 0 3 ∷ at 4294967295 5 0 1 ∷ [] } ∷
+    record { edit = putting 7 0 1 2 222; answer = Err NoRoom; after = at 0 0 0 4 ∷ at 9 10 0 3 ∷ at 4294967295 5 0 1 ∷ [] } ∷
+    record { edit = setting 13 1 2 0 213; answer = Err Unknown; after = at 0 0 0 4 ∷ at 9 10 0 3 ∷ at 4294967295 5 0 1 ∷ [] } ∷
+    record { edit = setting 0 0 2 2 165; answer = Err Unknown; after = at 0 0 0 4 ∷ at 9 10 0 3 ∷ at 4294967295 5 0 1 ∷ [] } ∷
+    record { edit = deleting 0 1 2 0; answer = Err Unknown; after = at 0 0 0 4 ∷ at 9 10 0 3 ∷ at 4294967295 5 0 1 ∷ [] } ∷
+    record { edit = putting 0 1 0 2 166; answer = Ok 5; after = at 0 10 1 5 ∷ at 9 0 0 3 ∷ at 4294967295 5 0 1 ∷ [] } ∷
+    record { edit = dropping 13; answer = Err Unknown; after = at 0 10 1 5 ∷ at 9 0 0 3 ∷ at 4294967295 5 0 1 ∷ [] } ∷
+    record { edit = putting 4294967295 1 1 0 163; answer = Ok 2; after = at 0 10 1 5 ∷ at 9 0 0 3 ∷ at 4294967295 5 0 2 ∷ [] } ∷
+    record { edit = putting 9 0 2 1 159; answer = Ok 4; after = at 0 10 1 5 ∷ at 9 0 0 4 ∷ at 4294967295 5 0 2 ∷ [] } ∷
+    record { edit = putting 11 1 1 2 14; answer = Err NoRoom; after = at 0 10 1 5 ∷ at 9 0 0 4 ∷ at 4294967295 5 0 2 ∷ [] } ∷
+    record { edit = deleting 13 1 1 2; answer = Err Unknown; after = at 0 10 1 5 ∷ at 9 0 0 4 ∷ at 4294967295 5 0 2 ∷ [] } ∷
+    record { edit = dropping 7; answer = Err Unknown; after = at 0 10 1 5 ∷ at 9 0 0 4 ∷ at 4294967295 5 0 2 ∷ [] } ∷
+    record { edit = setting 13 1 0 1 70; answer = Err Unknown; after = at 0 10 1 5 ∷ at 9 0 0 4 ∷ at 4294967295 5 0 2 ∷ [] } ∷
+    record { edit = deleting 0 0 1 2; answer = Err Unknown; after = at 0 10 1 5 ∷ at 9 0 0 4 ∷ at 4294967295 5 0 2 ∷ [] } ∷
+    record { edit = putting 0 1 2 1 13; answer = Err Listed; after = at 0 10 1 5 ∷ at 9 0 0 4 ∷ at 4294967295 5 0 2 ∷ [] } ∷
+    record { edit = deleting 13 0 2 0; answer = Err Unknown; after = at 0 10 1 5 ∷ at 9 0 0 4 ∷ at 4294967295 5 0 2 ∷ [] } ∷
+    record { edit = putting 11 1 1 2 213; answer = Err NoRoom; after = at 0 10 1 5 ∷ at 9 0 0 4 ∷ at 4294967295 5 0 2 ∷ [] } ∷
+    record { edit = deleting 7 1 2 1; answer = Err Unknown; after = at 0 10 1 5 ∷ at 9 0 0 4 ∷ at 4294967295 5 0 2 ∷ [] } ∷
+    record { edit = dropping 0; answer = Ok 0; after = at 9 0 0 4 ∷ at 4294967295 5 0 2 ∷ [] } ∷
+    record { edit = putting 9 1 1 0 186; answer = Err Listed; after = at 9 0 0 4 ∷ at 4294967295 5 0 2 ∷ [] } ∷
+    record { edit = putting 9 0 0 2 59; answer = Ok 5; after = at 9 5 1 5 ∷ at 4294967295 0 0 2 ∷ [] } ∷
+    record { edit = setting 11 0 0 0 94; answer = Err Unknown; after = at 9 5 1 5 ∷ at 4294967295 0 0 2 ∷ [] } ∷
+    record { edit = deleting 13 0 2 0; answer = Err Unknown; after = at 9 5 1 5 ∷ at 4294967295 0 0 2 ∷ [] } ∷
+    record { edit = putting 9 0 1 1 193; answer = Ok 6; after = at 9 5 2 6 ∷ at 4294967295 0 0 2 ∷ [] } ∷
+    record { edit = putting 11 1 0 1 147; answer = Err NoRoom; after = at 9 5 2 6 ∷ at 4294967295 0 0 2 ∷ [] } ∷
     []
 
 model_holds : follow 0 16 (replicate 30 empty) model ≡ true
@@ -257,10 +256,10 @@ model_holds = refl
 -- the home that the model was given to spoil
 spoiled : List Row
 spoiled =
-    record { edit = putting 7 1 100 9 0; answer = Count 1; after = at 7 0 0 1 ∷ [] } ∷
-    record { edit = putting 7 1 100 3 4; answer = Count 2; after = at 7 0 0 2 ∷ [] } ∷
-    record { edit = putting 9 0 5 1 2; answer = Count 1; after = at 7 0 0 2 ∷ at 9 5 0 1 ∷ [] } ∷
-    record { edit = putting 0 0 5 1 2; answer = Count 1; after = at 0 10 0 1 ∷ at 7 0 0 2 ∷ at 9 5 0 1 ∷ [] } ∷
+    record { edit = putting 7 1 100 9 0; answer = Ok 1; after = at 7 0 0 1 ∷ [] } ∷
+    record { edit = putting 7 1 100 3 4; answer = Ok 2; after = at 7 0 0 2 ∷ [] } ∷
+    record { edit = putting 9 0 5 1 2; answer = Ok 1; after = at 7 0 0 2 ∷ at 9 5 0 1 ∷ [] } ∷
+    record { edit = putting 0 0 5 1 2; answer = Ok 1; after = at 0 10 0 1 ∷ at 7 0 0 2 ∷ at 9 5 0 1 ∷ [] } ∷
     []
 
 whole : List ℕ

@@ -1,4 +1,5 @@
 -- The layout with the capacities of a step code: moves and validity with the table put in.
+use Rattle.refusals.specs.declared.Refusal.{Refusal}
 use Rattle.std.specs.Prelude.{◌≡◌, Bool, List, ℕ, ◌*◌, ◌≤◌, length}
 use Rattle.std.proofs.Math.Option.{Option}
 use Rattle.records.specs.declared.Record.{Record}
@@ -37,5 +38,5 @@ change step area t rs zs = change_by (cells step) (class_of step) area t rs zs
 abbrev pub total_after : ℕ → ℕ → List Record → List Zone → ℕ
 total_after step t rs zs = total_after_by (cells step) (class_of step) t rs zs
 
-abbrev pub put : ℕ → ℕ → ℕ → ℕ → ℕ → Record → List Zone → Edit
+abbrev pub put : ℕ → ℕ → ℕ → Refusal → ℕ → Record → List Zone → Edit
 put step area limit full t r zs = put_by (cells step) (class_of step) area limit full t r zs

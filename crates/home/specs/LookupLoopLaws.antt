@@ -1,5 +1,5 @@
 -- One turn of the search in the dictionary, and what it finds.
-use Rattle.std.specs.Prelude.{◌≡◌, Bool, true, false, ◌≢◌, List, ltb, eqb}
+use Rattle.std.specs.Prelude.{◌≡◌, Bool, true, false, ◌≢◌, List, ltb, eqb, Ok, Err}
 use Rattle.std.proofs.Math.Path.{refl, ap}
 use Rattle.std.proofs.Common.{sym, ◌∙◌}
 use Prim.Native.Nat.{ℕ, zero, suc, ◌+◌, ◌≤◌, ◌<◌}
@@ -7,7 +7,6 @@ use native.Mathlib.Omega.{arith}
 use borrow.Author.Tests.{ltb-true, ltb-false, lt-ltb, eqb-false, ne_eqb}
 use Rattle.wire.specs.Bytes.{get16}
 use Rattle.wire.specs.Cases.{by_test, by_lt, by_eq, never}
-use Rattle.home.specs.declared.lookup.Slot.TheVariants.{At, Absent}
 use Rattle.layout.specs.Cases.{by_pick}
 use Rattle.home.specs.Bytes.{tag_at}
 use Rattle.home.specs.Sound.{sound}
@@ -96,16 +95,16 @@ module _ (h : List ℕ) (t : ℕ) where
   pub find-down : (m : ℕ) → m < get16 h 0 → t ≤ tag_at h m → rank_at h t 0 (get16 h 0) ≤ m
   find-down m a b = omega (arith, rank-under h t 0 (get16 h 0) m (omega arith) (omega arith) b)
 
-  pub find_end : (i : ℕ) → rank_at h t 0 (get16 h 0) ≡ i → i ≡ get16 h 0 → Absent i ≡ slot_of h t
+  pub find_end : (i : ℕ) → rank_at h t 0 (get16 h 0) ≡ i → i ≡ get16 h 0 → Err i ≡ slot_of h t
   unfolding slot_of
   find_end i r e =
       rw (has_entry-none h t 0 (get16 h 0) (λ j a b q. omega (arith, rank-low h t 0 (get16 h 0) j a (omega arith))), r)
 
-  pub find_at : (i : ℕ) → rank_at h t 0 (get16 h 0) ≡ i → i < get16 h 0 → tag_at h i ≡ t → At i ≡ slot_of h t
+  pub find_at : (i : ℕ) → rank_at h t 0 (get16 h 0) ≡ i → i < get16 h 0 → tag_at h i ≡ t → Ok i ≡ slot_of h t
   unfolding slot_of
   find_at i r a e = rw (has_entry-at h t 0 (get16 h 0) i (omega arith) (omega arith) e, r)
 
-  pub find_absent : Ordered h → (i : ℕ) → rank_at h t 0 (get16 h 0) ≡ i → i < get16 h 0 → (tag_at h i ≡ t → ⊥) → Absent i ≡ slot_of h t
+  pub find_absent : Ordered h → (i : ℕ) → rank_at h t 0 (get16 h 0) ≡ i → i < get16 h 0 → (tag_at h i ≡ t → ⊥) → Err i ≡ slot_of h t
   unfolding slot_of
   find_absent o i r a d =
       let e : 0 + rank_at h t 0 (get16 h 0) ≡ i = omega arith in
@@ -120,23 +119,23 @@ module _ (h : List ℕ) (t : ℕ) where
 
 -- ---- what it finds
 
-clash : {G : Type 0} (i j : ℕ) → Absent i ≡ At j → G
-clash i j e = let z : ◌≡◌ {A = ℕ} 0 1 = cc in absurd (omega arith)
+clash : {G : Type 0} (i j : ℕ) → Err i ≡ Ok j → G
+clash i j e = cc
 
 -- an entry with the tag
-pub slot_at : (h : List ℕ) (t i : ℕ) → Ordered h → slot_of h t ≡ At i → (i < get16 h 0) × (tag_at h i ≡ t)
+pub slot_at : (h : List ℕ) (t i : ℕ) → Ordered h → slot_of h t ≡ Ok i → (i < get16 h 0) × (tag_at h i ≡ t)
 slot_at h t i o e =
     let r : ℕ = rank_at h t 0 (get16 h 0) in
     by_lt r (get16 h 0)
     (λ a. by_eq (tag_at h r) t
-    (λ q. let f : At r ≡ At i = find_at h t r refl a q ∙ e in let g : i ≡ r = cc in rw g (a, q))
-    (λ d. clash r i (find_absent h t o r refl a d ∙ e)))
-    (λ a. clash r i (find_end h t r refl (omega (arith, find_most h t)) ∙ e))
+    (λ q. let f : Ok r ≡ Ok i = find_at h t r refl a q ∙ e in let g : i ≡ r = cc in rw g (a, q))
+    (λ d. let f : Err r ≡ Ok i = find_absent h t o r refl a d ∙ e in cc))
+    (λ a. let f : Err r ≡ Ok i = find_end h t r refl (omega (arith, find_most h t)) ∙ e in cc)
 
 -- or none
-pub slot_absent : (h : List ℕ) (t i : ℕ) → slot_of h t ≡ Absent i → (j : ℕ) → j < get16 h 0 → t ≢ tag_at h j
+pub slot_absent : (h : List ℕ) (t i : ℕ) → slot_of h t ≡ Err i → (j : ℕ) → j < get16 h 0 → t ≢ tag_at h j
 unfolding slot_of
 slot_absent h t i e j a q =
     by_test (has_entry h t 0 (get16 h 0))
-    (λ u. clash i (rank_at h t 0 (get16 h 0)) (sym (rw u at e)))
+    (λ u. let f : Ok (rank_at h t 0 (get16 h 0)) ≡ Err i = rw u at e in cc)
     (λ u. has_entry-not h t 0 (get16 h 0) u j (omega arith) (omega arith) (sym q))

@@ -7,8 +7,6 @@ ghost use Rattle.home.specs.Bytes.{decode, tag_at, first_tags};
 ghost use Rattle.home.specs.Sound.{sound as is_sound};
 ghost use Rattle.home.specs.Lookup.{Ordered};
 
-use records::one_if;
-
 // The tags of one building: its number is their top four bits.
 const PER_BUILDING: u32 = 268435456;
 
@@ -41,11 +39,9 @@ pub fn building_full(home: &[u8], tag: u32) -> bool
     let mine = tag / PER_BUILDING;
     let mut own = 0;
     let mut beyond = 0;
-    let mut i = 0;
-    while i < n {
-        own += one_if(building_at(home, i) == mine);
-        beyond += one_if(beyond_eighth(home, i));
-        i += 1;
+    for i in 0..n {
+        own += usize::from(building_at(home, i) == mine);
+        beyond += usize::from(beyond_eighth(home, i));
     }
     (own >= 8) & (beyond >= 128)
 }

@@ -1,26 +1,31 @@
 // Reading home: zones, the dictionary, and a tag's list.
-ghost use Rattle.std.specs.Prelude.{◌≡◌, true, ◌+◌, ◌≤◌, ◌<◌, length};
+ghost use Rattle.std.specs.Prelude.{◌≡◌, true, ◌+◌, ◌*◌, ◌^◌, ◌≤◌, ◌<◌, length};
 ghost use Rattle.wire.specs.Bytes.{get16};
 ghost use Rattle.records.specs.Records.{encode as record_bytes};
-ghost use Rattle.home.specs.Bytes.{step_of, first_at, many_at, end_at};
+ghost use Rattle.home.specs.Bytes.{step_of, first_at, many_at, end_at, list_at};
 ghost use Rattle.home.specs.Sound.{sound as is_sound, list_of};
 ghost use Rattle.home.specs.Lookup.{Ordered, index_of, slot_of, slot_block, block_of, offset_of};
 
 use crate::AREA;
 use layout::classes::cells;
-
-// Where a tag stands in the dictionary, or would stand: the entries before it.
-#[derive(Clone, Copy)]
-pub enum Slot {
-    At(usize),
-    Absent(usize),
-}
+use std::ops::Range;
 
 // A tag's block: its first cell and its record count.
-#[derive(Clone, Copy)]
-pub enum TagBlock {
-    Known(usize, usize),
-    Unknown,
+#[derive(Clone, Copy, Debug, PartialEq, Eq)]
+pub struct Block {
+    pub cell: usize,
+    pub count: usize,
+}
+
+impl Block {
+    // Where its records lie in home, behind the header.
+    pub fn records(self) -> Range<usize>
+        requires { list_at self.cell + 8 * self.count < 2 ^ 64 }
+        ensures { result ≡ record { start = list_at self.cell; end = list_at self.cell + 8 * self.count } }
+    {
+        let at = AREA + 8 * self.cell + 8;
+        at..at + 8 * self.count
+    }
 }
 
 // The step code.
@@ -77,40 +82,40 @@ pub fn index_of(home: &[u8], tag: u32) -> usize
     low
 }
 
-// Finds a tag in the dictionary.
-pub fn find(home: &[u8], tag: u32) -> Slot
+// Finds a tag in the dictionary: the number of its entry, or of the one that it would be.
+pub fn find(home: &[u8], tag: u32) -> Result<usize, usize>
     requires { Ordered home.now }
     ensures { result ≡ slot_of home.now tag }
 {
     let i = index_of(home, tag);
     if i == wire::get16(home, 0) {
-        return Slot::Absent(i);
+        return Err(i);
     }
     if wire::get32(home, 128 + 6 * i) == tag {
-        Slot::At(i)
+        Ok(i)
     } else {
-        Slot::Absent(i)
+        Err(i)
     }
 }
 
-// The first cell and the record count of the block to which the i-th entry leads.
-fn block_at(home: &[u8], i: usize) -> TagBlock
+// The block to which the i-th entry leads.
+fn block_at(home: &[u8], i: usize) -> Block
     requires { (is_sound home.now ≡ true) × (i < get16 home.now 0) }
-    ensures { result ≡ slot_block home.now (Slot.At i) }
+    ensures { Some result ≡ slot_block home.now (Ok i) }
 {
-    let p = wire::get16(home, 128 + 6 * i + 4);
-    let n = wire::get16(home, AREA + 8 * p + 4);
-    TagBlock::Known(p, n)
+    let cell = wire::get16(home, 128 + 6 * i + 4);
+    let count = wire::get16(home, AREA + 8 * cell + 4);
+    Block { cell, count }
 }
 
 // Finds a tag's block.
-pub fn block_of(home: &[u8], tag: u32) -> TagBlock
+pub fn block_of(home: &[u8], tag: u32) -> Option<Block>
     requires { is_sound home.now ≡ true }
     ensures { result ≡ block_of home.now tag }
 {
     match find(home, tag) {
-        Slot::At(i) => block_at(home, i),
-        Slot::Absent(_) => TagBlock::Unknown,
+        Ok(i) => Some(block_at(home, i)),
+        Err(_) => None,
     }
 }
 
@@ -120,8 +125,8 @@ pub fn count(home: &[u8], tag: u32) -> usize
     ensures { result ≡ length (list_of home.now tag) }
 {
     match block_of(home, tag) {
-        TagBlock::Known(_, n) => n,
-        TagBlock::Unknown => 0,
+        Some(block) => block.count,
+        None => 0,
     }
 }
 
@@ -132,11 +137,7 @@ pub fn list(home: &[u8], tag: u32) -> &[u8]
     ensures ref_ptr_value { (result.ref_ptr.0 ≡ home.entry.ref_ptr.0) × (result.ref_ptr.1 ≡ home.entry.ref_ptr.1 + offset_of home.now tag) }
 {
     match block_of(home, tag) {
-        TagBlock::Known(p, n) => {
-            let at = AREA + 8 * p + 8;
-            let end = at + 8 * n;
-            &home[at..end]
-        }
-        TagBlock::Unknown => &home[0..0],
+        Some(block) => &home[block.records()],
+        None => &home[0..0],
     }
 }

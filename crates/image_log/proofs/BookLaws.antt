@@ -4,8 +4,9 @@ use Rattle.std.proofs.Math.Option.{none}
 use Rattle.std.proofs.Common.{arith}
 use borrow.Author.Tests.{le-leb, lt-leb, eq-eqb, ne_eqb, eqb-true, not-false, ltb-false}
 use Rattle.wire.specs.Cases.{by_test, by_lt, by_eq}
-use Rattle.wire.specs.Rules.{refusal}
-use Rattle.wire.specs.RulesLaws.{passes, unrefused}
+use Rattle.refusals.specs.declared.Refusal.TheVariants.{Unrecovered, SpaceLength, UnsoundSpace, LogShort}
+use Rattle.refusals.specs.Rules.{refusal}
+use Rattle.refusals.specs.RulesLaws.{passes, unrefused}
 use Rattle.image_log.specs.Book.{commit, recover, Book, Verdict, refused, writes, differing, kept_rules, book_rules, judge, commit_need, need_by, recover_need, logs, told_mark, recovering, committing, book_at, next}
 
 -- ---- the book's numbers
@@ -75,26 +76,23 @@ by_committing P b w k n v p q r = by_lt n (66 * k + 2)
 
 -- ---- a commit that is not refused
 
-pub not_writes : (k r : ℕ) → refused r ≡ writes k → ⊥
-not_writes k r e = let z : ◌≡◌ {A = ℕ} 0 1 = cc in omega arith
-
 module _ (accept : List ℕ → Bool) (L : ℕ) where
   pub kept_passed : (H w : List ℕ) → refusal (kept_rules accept L H w) ≡ none → (length w ≡ length H) × (accept w ≡ true) × (differing H w ≤ L)
   unfolding kept_rules
   kept_passed H w e =
-      let a = passes 6 (not (eqb (length w) (length H))) _ e in
-      let b = passes 7 (not (accept w)) _ a.1 in
-      let c = passes 13 (ltb L (differing H w)) _ b.1 in
+      let a = passes SpaceLength (not (eqb (length w) (length H))) _ e in
+      let b = passes UnsoundSpace (not (accept w)) _ a.1 in
+      let c = passes LogShort (ltb L (differing H w)) _ b.1 in
       (eqb-true _ _ (not-false _ a.0), not-false _ b.0, ltb-false _ _ c.0)
 
   pub book_passed : (b : Book) (w : List ℕ) → refusal (book_rules accept L b w) ≡ none → (b.mark ≡ 0) × (refusal (kept_rules accept L b.kept w) ≡ none)
   unfolding book_rules
-  book_passed b w e = let a = passes 3 (not (eqb b.mark 0)) _ e in (eqb-true _ _ (not-false _ a.0), a.1)
+  book_passed b w e = let a = passes Unrecovered (not (eqb b.mark 0)) _ e in (eqb-true _ _ (not-false _ a.0), a.1)
 
   -- only with mark 0
   pub writes_clear : (b : Book) (w : List ℕ) (k : ℕ) → judge accept L b w ≡ writes k → b.mark ≡ 0
   unfolding judge
-  writes_clear b w k e = (book_passed b w (unrefused refused (book_rules accept L b w) (writes (differing b.kept w)) (writes k) (not_writes k) e)).0
+  writes_clear b w k e = (book_passed b w (unrefused refused (book_rules accept L b w) (writes (differing b.kept w)) (writes k) (λ r f. cc) e)).0
 
 -- ---- what holds of home at the start and of every workspace committed
 

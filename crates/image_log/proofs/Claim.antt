@@ -1,5 +1,5 @@
 -- The claim about whole lists of commits and recoveries, cut and caught anywhere, refused ones included.
-use Rattle.std.specs.Prelude.{◌≡◌, Bool, not, length, eqb}
+use Rattle.std.specs.Prelude.{◌≡◌, Bool, not, length, eqb, Ok}
 use Rattle.std.proofs.Math.Path.{refl, ap}
 use Rattle.std.proofs.Common.{sym, ap₂, ◌∙◌, arith, take_all, leb-true, ne_eqb}
 use Rattle.std.proofs.Math.Bool.{true}
@@ -10,7 +10,7 @@ use Rattle.wire.specs.Cases.{by_test}
 use Rattle.redo.specs.Store.{Store, apply, halfway}
 use Rattle.redo.specs.Image.{capacity, mark, home, head_ok}
 use Rattle.redo.specs.ImageLaws.{same_refl, capacity_same, pages_same, head_right, length-home}
-use Rattle.image_log.specs.declared.Outcome.TheVariants.{Done}
+use Rattle.image_log.specs.declared.Stored.TheVariants.{Done, Cut}
 use Rattle.redo.specs.Torn.{torn_all}
 use Rattle.image_log.specs.Calls.{Plan, refuse, store, answer, after, recover_plan}
 use Rattle.image_log.specs.CallLaws.{log_right}
@@ -34,17 +34,17 @@ stands_of x b (spoiled f g e s o) h = s
 -- only done means that the allowance was enough
 pub done_enough : (need n m : ℕ) → report need n ≡ Done m → leb need n ≡ true
 unfolding report
-done_enough need n m e = by_test (leb need n) (λ t. t) (λ f. let z : ◌≡◌ {A = ℕ} 0 1 = cc in absurd (omega arith))
+done_enough need n m e = by_test (leb need n) (λ t. t) (λ f. let z : Cut _ ≡ Done m = rw f at e in cc)
 
 -- and then no byte is caught
-pub done_uncaught : (p : Plan) (n m v : ℕ) (l : List ℕ) → answer p n ≡ Done m → caught p n v l ≡ after p n l
+pub done_uncaught : (p : Plan) (n m v : ℕ) (l : List ℕ) → answer p n ≡ Ok (Done m) → caught p n v l ≡ after p n l
 unfolding answer caught rest halfway after
 done_uncaught (refuse r) n m v l e = refl
 done_uncaught (store ss) n m v l e = by_test (leb (length ss) n)
     (λ t.
     let g : length ss ≤ n = leb-true (length ss) n t in
     caught_is ss n v l ∙ ap (λ (ts : List Store). apply ts l) (torn_all n v ss g ∙ sym (take_all n ss g)))
-    (λ f. let z : ◌≡◌ {A = ℕ} 0 1 = cc in absurd (omega arith))
+    (λ f. let z : Ok (Cut _) ≡ Ok (Done m) = rw f at e in cc)
 
 module _ (accept : List ℕ → Bool) (l₀ : List ℕ) (ok : head_ok l₀ ≡ true) where
   -- what holds goes on over a list, and the list is the book's
@@ -58,16 +58,16 @@ module _ (accept : List ℕ → Bool) (l₀ : List ℕ) (ok : head_ok l₀ ≡ t
       (ap₂ (λ (x : Seen) (y : List Seen). x ∷ y) s.same (rest.0 ∙ ap (λ (z : Seen). ledger accept (capacity l₀) cs (next accept (capacity l₀) b c) z.image) s.same), rest.1)
 
   module _ (l : List ℕ) (b : Book) (t : Holds accept l₀ l b) where
-    answers : (n : ℕ) → answer (recover_plan l) n ≡ report (recover_need b) n
+    answers : (n : ℕ) → answer (recover_plan l) n ≡ Ok (report (recover_need b) n)
     unfolding seen told plan_of allowance foretold
     answers n = ap (λ (z : Seen). z.answered) (step accept l₀ ok l b t (recover n 0)).same
 
     -- a recovery that finishes leaves what is kept, and mark 0
-    finished : (n m : ℕ) → answer (recover_plan l) n ≡ Done m → (home (after (recover_plan l) n l) ≡ b.kept) × (mark (after (recover_plan l) n l) ≡ 0)
+    finished : (n m : ℕ) → answer (recover_plan l) n ≡ Ok (Done m) → (home (after (recover_plan l) n l) ≡ b.kept) × (mark (after (recover_plan l) n l) ≡ 0)
     unfolding told_mark
     finished n m e =
         let x : List ℕ = after (recover_plan l) n l in
-        let enough : leb (recover_need b) n ≡ true = done_enough (recover_need b) n m (sym (answers n) ∙ e) in
+        let enough : leb (recover_need b) n ≡ true = done_enough (recover_need b) n m (let z = sym (answers n) ∙ e in cc) in
         let h : Holds accept l₀ x (told_mark b 0) =
         rw (done_uncaught (recover_plan l) n m 0 l e, recovering_done b n 0 (leb-true (recover_need b) n enough)) at (recover_goes accept l₀ ok l b t n 0) in
         (stands_of x (told_mark b 0) h.state (λ z. omega arith), h.marks)

@@ -1,16 +1,18 @@
 -- The claim in the user's words: which index is found after a switch-off, and that a completed commit is kept.
 use Rattle.std.proofs.Math.Dec.{leb}
 use Rattle.std.proofs.Math.Bool.{true}
-use Rattle.std.specs.Prelude.{◌≡◌, Bool, not, ◌⊎◌, eqb}
+use Rattle.std.specs.Prelude.{◌≡◌, Bool, not, ◌⊎◌, eqb, Ok, Err}
 use Rattle.std.proofs.Math.Path.{refl, ap}
 use Rattle.std.proofs.Common.{sym, ◌∙◌, arith}
+use Rattle.std.proofs.lemmas.List.{nil_from_length}
 use Rattle.std.proofs.Math.Logic.{inl, inr}
 use Prim.Native.Nat.{ℕ, ◌+◌, ◌-◌, ◌*◌, ◌/◌, ◌≤◌}
 use mathlib.Core.List.{List, ◌∷◌, ◌++◌, []}
 use Rattle.std.proofs.Math.ListN.{length}
 use borrow.Author.Tests.{eqb-true, leb-true, ne_eqb, not-false}
 use Rattle.wire.specs.Cases.{by_test, by_lt, by_eq}
-use Rattle.wire.specs.RulesLaws.{first-refused, first_passed, passes, by_refusal, unrefused}
+use Rattle.refusals.specs.declared.Refusal.TheVariants.{BadHead, Unrecovered, UnsoundHome}
+use Rattle.refusals.specs.RulesLaws.{first-refused, first_passed, passes, by_refusal, unrefused}
 use Rattle.wire.specs.All.{All, none, more}
 use Rattle.redo.specs.Store.{Store, apply}
 use Rattle.redo.specs.StoreLaws.{apply-none}
@@ -19,10 +21,10 @@ use Rattle.redo.specs.ImageLaws.{head_right, length-home}
 use Rattle.redo.specs.Entry.{Entry, changes, replay}
 use Rattle.redo.specs.EntryLaws.{home_becomes}
 use Rattle.redo.specs.Stores.{commit_stores}
-use Rattle.image_log.specs.declared.Outcome.TheVariants.{Done, Refused}
+use Rattle.image_log.specs.declared.Stored.TheVariants.{Done}
 use Rattle.image_log.specs.Calls.{refuse, store, answer, changed_pages, commit_rules, commit_plan}
 use Rattle.image_log.specs.Answers.{not_store}
-use Rattle.image_log.specs.Book.{Call, commit, recover, allowance, value, plan_of, Seen, seen, told, foretold, final, Book, start, differing, Verdict, refused, writes, book_rules, judge, commit_need, need_by, recover_need, answer_to, logs, told_mark, recovering, committing, book_at, next, book_after}
+use Rattle.image_log.specs.Book.{Call, commit, recover, allowance, value, plan_of, Seen, seen, told, foretold, final, Book, start, differing, Verdict, refused, writes, book_rules, judge, commit_need, need_by, recover_need, report, answer_to, logs, told_mark, recovering, committing, book_at, next, book_after}
 use Rattle.image_log.proofs.BookLaws.{need_clear, some_commit, recovering_done, committing_early, committing-mark, committing_late, by_recovering, book_passed, kept_passed, Both, told_both, recover_both}
 use Rattle.image_log.specs.Holds.{Holds}
 use Rattle.image_log.proofs.Steps.{Step, step, Writing, writing, writes_changed}
@@ -35,12 +37,8 @@ no_page : (H w : List ℕ) (q : ℕ) → length w ≡ 64 * q → length H ≡ 64
 unfolding replay
 no_page H w q e f g =
     sym (apply-none H)
-    ∙ ap (λ (es : List Entry). apply (replay 0 es) H) (sym (empty (changes H w q) g))
+    ∙ ap (λ (es : List Entry). apply (replay 0 es) H) (sym (nil_from_length (changes H w q) g))
     ∙ home_becomes H w q e f
-  where
-    empty : (es : List Entry) → length es ≡ 0 → es ≡ []
-    empty [] e = refl
-    empty (x ∷ es) e = absurd (omega arith)
 
 -- either way one of the two, entire
 pub one_found : (n v k : ℕ) (old w found : List ℕ) → Finds n v k old w found → (found ≡ old) ⊎ (found ≡ w)
@@ -88,9 +86,9 @@ pub starts : (accept : List ℕ → Bool) (l w : List ℕ) {ss : List Store} →
 unfolding commit_plan commit_rules
 starts accept l w {ss} is =
     let e = unrefused refuse (commit_rules accept l w) (store (commit_stores (home_at l) (changed_pages l w))) (store ss) (not_store ss) is in
-    let a = passes 1 (not (head_ok l)) _ e in
-    let b = passes 3 (not (eqb (mark l) 0)) _ a.1 in
-    let c = passes 5 (not (accept (home l))) _ b.1 in
+    let a = passes BadHead (not (head_ok l)) _ e in
+    let b = passes Unrecovered (not (eqb (mark l) 0)) _ a.1 in
+    let c = passes UnsoundHome (not (accept (home l))) _ b.1 in
     record { head = not-false _ a.0; unmarked = eqb-true _ _ (not-false _ b.0); fine = not-false _ c.0 }
 
 -- A commit of w that is not refused, on whatever image, cut and caught anywhere; then recoveries, any number of them, cut and caught anywhere.
@@ -129,13 +127,13 @@ record Took (accept : List ℕ → Bool) (L : ℕ) (b : Book) (w : List ℕ) (n 
   verdict : judge accept L b w ≡ writes (differing b.kept w)
   enough : leb (commit_need (differing b.kept w)) n ≡ true
 
-took : (accept : List ℕ → Bool) (L : ℕ) (b : Book) (w : List ℕ) (n m : ℕ) → answer_to (judge accept L b w) n ≡ Done m → Took accept L b w n
+took : (accept : List ℕ → Bool) (L : ℕ) (b : Book) (w : List ℕ) (n m : ℕ) → answer_to (judge accept L b w) n ≡ Ok (Done m) → Took accept L b w n
 unfolding judge answer_to
 took accept L b w n m done =
     let rs = book_rules accept L b w in
     let k : ℕ = differing b.kept w in
     by_refusal rs
-    (λ r e. let f : Refused r ≡ Done m = sym (ap (λ (d : Verdict). answer_to d n) (first-refused refused rs r (writes k) e)) ∙ done in let z : ◌≡◌ {A = ℕ} 0 1 = cc in absurd (omega arith))
+    (λ r e. let f : Err r ≡ Ok (Done m) = sym (ap (λ (d : Verdict). answer_to d n) (first-refused refused rs r (writes k) e)) ∙ done in cc)
     (λ e.
     let p = book_passed accept L b w e in
     let verdict = first_passed refused rs (writes k) e in
@@ -143,7 +141,7 @@ took accept L b w n m done =
       clear = p.0;
       long = (kept_passed accept L b.kept w p.1).0;
       verdict = verdict;
-      enough = done_enough (commit_need k) n m (sym (ap (λ (d : Verdict). answer_to d n) verdict) ∙ done);
+      enough = done_enough (commit_need k) n m (let z : Ok (report (commit_need k) n) ≡ Ok (Done m) = sym (ap (λ (d : Verdict). answer_to d n) verdict) ∙ done in cc);
     })
 
 -- a recovery of its log that is done leaves it kept
@@ -173,7 +171,7 @@ book_append accept L (c ∷ cs) ds b = book_append accept L cs ds _
 
 module _ (accept : List ℕ → Bool) (l : List ℕ) (s : Starts accept l) where
   -- A commit answered done is kept, and its workspace stands in home.
-  pub completed : (cs : List Call) (w x : List ℕ) → x ≡ final accept cs l → (n v m : ℕ) → answer (commit_plan accept x w) n ≡ Done m
+  pub completed : (cs : List Call) (w x : List ℕ) → x ≡ final accept cs l → (n v m : ℕ) → answer (commit_plan accept x w) n ≡ Ok (Done m)
       → ((book_of accept l (cs ++ (commit w n v ∷ []))).kept ≡ w) × (mark (committed accept x w n) ≡ 0) × (home (committed accept x w n) ≡ w)
   unfolding book_after seen plan_of allowance value told foretold
   completed cs w x is n v m e =

@@ -1,5 +1,5 @@
 -- Each call of a list answers as the book foretells and keeps what holds between calls.
-use Rattle.std.specs.Prelude.{◌≡◌, Bool}
+use Rattle.std.specs.Prelude.{◌≡◌, Bool, Ok}
 use Rattle.std.proofs.Math.Path.{refl, sym, ap, ap₂}
 use Rattle.std.proofs.Common.{◌∙◌, arith}
 use Rattle.std.proofs.Math.Bool.{true}
@@ -9,8 +9,10 @@ use Rattle.std.proofs.Math.Option.{none}
 use Rattle.std.proofs.Math.ListN.{length}
 use borrow.Author.Tests.{eq-eqb, ne_eqb}
 use Rattle.wire.specs.Cases.{by_lt, by_eq}
-use Rattle.wire.specs.Rules.{Rule, first, refusal}
-use Rattle.wire.specs.RulesLaws.{first-refused, first_passed, by_refusal, unrefused}
+use Rattle.refusals.specs.declared.Refusal.{Refusal}
+use Rattle.refusals.specs.declared.Refusal.TheVariants.{Unrecovered}
+use Rattle.refusals.specs.Rules.{Rule, first, refusal}
+use Rattle.refusals.specs.RulesLaws.{first-refused, first_passed, by_refusal, unrefused}
 use Rattle.redo.specs.Store.{Store, apply, run, halfway}
 use Rattle.redo.specs.StoreLaws.{apply-none, apply-append}
 use Rattle.redo.specs.Image.{capacity, mark, pages, home_at, home, head_ok}
@@ -23,7 +25,7 @@ use Rattle.image_log.specs.Calls.{Plan, refuse, store, answer, after, changed_pa
 use Rattle.image_log.specs.Answers.{recover_clear, recover_committed_lem, recover_spoiled, commit_marked, not_store}
 use Rattle.image_log.specs.CallLaws.{log_last, log_mark_same, recover_marked, recover_last, recover_zero}
 use Rattle.image_log.specs.Book.{Call, commit, recover, allowance, value, plan_of, rest, caught, seen, Book, logs, told_mark, recovering, committing, differing, refused, writes, kept_rules, book_rules, judge, recover_need, report, answer_to, book_at, foretold, next, left_by, told}
-use Rattle.image_log.proofs.BookLaws.{need_clear, need_marked, no_commit, some_commit, recovering_done, recovering_last, recovering-cut, by_committing, not_writes, kept_passed}
+use Rattle.image_log.proofs.BookLaws.{need_clear, need_marked, no_commit, some_commit, recovering_done, recovering_last, recovering-cut, by_committing, kept_passed}
 use Rattle.image_log.specs.Logged.{answer-report, caught_is, caught-report, Logged, long_log, log_long, recover_length, recover_head, recover_logged, recover_home, long_changes, commit_torn, commit_stands, commit_unmarked, commit_head, commit_home, commit_log, commit_logged}
 use Rattle.image_log.specs.Holds.{State, settled, owing, spoiled, Holds, Ready}
 use Rattle.image_log.proofs.Holds.{moved, told-fits, tell}
@@ -35,7 +37,7 @@ pub record Step (accept : List ℕ → Bool) (l₀ l : List ℕ) (b : Book) (c :
 
 -- a plan of stores, as many as the book says
 told_store : (p : Plan) (ss : List Store) (need n v : ℕ) (l : List ℕ) → p ≡ store ss → length ss ≡ need
-    → (answer p n ≡ report need n) × (caught p n v l ≡ left_by (report need n) p v l)
+    → (answer p n ≡ Ok (report need n)) × (caught p n v l ≡ left_by (Ok (report need n)) p v l)
 told_store p ss need n v l e f = rw (e, ← f) (answer-report ss n, caught-report ss n v l)
 
 -- ---- recover
@@ -162,16 +164,16 @@ module _ (accept : List ℕ → Bool) (l₀ : List ℕ) (ok₀ : head_ok l₀ �
   okay : head_ok l ≡ true
   okay = head_same t.head ∙ ok₀
 
-  commit_refused : (w : List ℕ) (n v r : ℕ) → commit_plan accept l w ≡ refuse r → judge accept (capacity l₀) b w ≡ refused r → Step accept l₀ l b (commit w n v)
+  commit_refused : (w : List ℕ) (n v : ℕ) (r : Refusal) → commit_plan accept l w ≡ refuse r → judge accept (capacity l₀) b w ≡ refused r → Step accept l₀ l b (commit w n v)
   unfolding seen told plan_of allowance value foretold next caught rest halfway after answer answer_to book_at left_by
   commit_refused w n v r plan verdict = record { same = rw (plan, verdict); goes_on = rw (plan, verdict) t }
 
-  marked_judged : (w : List ℕ) → (b.mark ≡ 0 → ⊥) → judge accept (capacity l₀) b w ≡ refused 3
+  marked_judged : (w : List ℕ) → (b.mark ≡ 0 → ⊥) → judge accept (capacity l₀) b w ≡ refused Unrecovered
   unfolding judge book_rules first
   marked_judged w f = rw (ne_eqb b.mark 0 f)
 
   commit_unsettled : (w : List ℕ) (n v : ℕ) → (b.mark ≡ 0 → ⊥) → Step accept l₀ l b (commit w n v)
-  commit_unsettled w n v f = commit_refused w n v 3 (commit_marked accept l w okay (λ z. f (sym t.marks ∙ z))) (marked_judged w f)
+  commit_unsettled w n v f = commit_refused w n v Unrecovered (commit_marked accept l w okay (λ z. f (sym t.marks ∙ z))) (marked_judged w f)
 
   module _ (m : b.mark ≡ 0) (e : b.owed ≡ 0) (s : home l ≡ b.kept) (w : List ℕ) (n v : ℕ) where
     abbrev stored : List Store
@@ -308,7 +310,7 @@ module _ (accept : List ℕ → Bool) (l₀ : List ℕ) (ok₀ : head_ok l₀ �
     -- with k pages to write
     pub writing : (j : ℕ) → judge accept (capacity l₀) b w ≡ writes j → Writing accept l w j
     writing j is =
-        let e = unrefused refused rules (writes (length (changed_pages l w))) (writes j) (not_writes j) (sym verdict_is ∙ is) in
+        let e = unrefused refused rules (writes (length (changed_pages l w))) (writes j) (λ r f. cc) (sym verdict_is ∙ is) in
         let verdict : writes (length (changed_pages l w)) ≡ writes j = sym (verdict_is ∙ first_passed refused rules (writes (length (changed_pages l w))) e) ∙ is in
         let k : length (changed_pages l w) ≡ j = cc in
         rw (← k) (passed e)

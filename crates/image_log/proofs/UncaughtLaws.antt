@@ -1,5 +1,5 @@
 -- Where no byte is caught, the book told the value that stood there is the one that knows H and p alone.
-use Rattle.std.specs.Prelude.{◌≡◌, Bool, true, ℕ, ◌+◌, ◌-◌, ◌*◌, ◌≤◌, ◌<◌, take, leb, eqb}
+use Rattle.std.specs.Prelude.{◌≡◌, Bool, true, ℕ, ◌+◌, ◌-◌, ◌*◌, ◌≤◌, ◌<◌, take, leb, eqb, Ok}
 use Rattle.std.proofs.Math.Path.{refl, sym, ap, ap₂}
 use Rattle.std.proofs.Common.{◌∙◌, length-take, take_all}
 use native.Mathlib.Omega.{arith}
@@ -9,7 +9,7 @@ use Rattle.std.proofs.lemmas.List.{set-get_or}
 use borrow.Author.Tests.{le-leb, lt-leb, ne_eqb}
 use Rattle.wire.specs.Bytes.{pick}
 use Rattle.wire.specs.Cases.{by_test, by_eq, by_lt}
-use Rattle.wire.specs.Rules.{first}
+use Rattle.refusals.specs.Rules.{first}
 use Rattle.redo.specs.Store.{Store, apply, halfway}
 use Rattle.redo.specs.StoreLaws.{apply-none, apply-take-append, length-apply}
 use Rattle.redo.specs.Image.{capacity, mark, home_at, home, head_ok}
@@ -17,8 +17,7 @@ use Rattle.redo.specs.ImageLaws.{head_same, head_right}
 use Rattle.redo.specs.Stores.{recover_stores, log_stores}
 use Rattle.redo.specs.StoresLaws.{length_log, commit_is}
 use Rattle.redo.specs.Stage.{take_min}
-use Rattle.image_log.specs.declared.Outcome.{Outcome}
-use Rattle.image_log.specs.Calls.{Plan, refuse, store, answer, after, changed_pages, log_of, recover_plan, commit_plan}
+use Rattle.image_log.specs.Calls.{Outcome, Plan, refuse, store, answer, after, changed_pages, log_of, recover_plan, commit_plan}
 use Rattle.image_log.specs.CallLaws.{log_right, log_mark_same, log_standing, recover_standing}
 use Rattle.image_log.specs.Book.{Call, commit, recover, allowance, value, plan_of, rest, caught, Seen, seen, told, trace, final, Book, start, logs, told_mark, recovering, committing, Verdict, refused, writes, book_rules, judge, need_by, recover_need, report, answer_to, book_at, foretold, next, book_after}
 use Rattle.image_log.specs.Answers.{recover_committed_lem}
@@ -218,7 +217,7 @@ module _ (accept : List ℕ → Bool) (l₀ : List ℕ) (ok₀ : head_ok l₀ �
       → (foretold accept (capacity l₀) b c ≡ plain_foretold accept (capacity l₀) p c) × Same (next accept (capacity l₀) b c) (plain_next accept (capacity l₀) p c)
   unfolding seen plan_of allowance value foretold plain_foretold next plain_next
   step_same (commit w n v) u = (ap (λ (d : Verdict). answer_to d n) (same_verdict w), rw (← same_verdict w) (committed_same w n v u))
-  step_same (recover n v) u = let r = recover_same n v u in (ap (λ (j : ℕ). report j n) r.0, r.1)
+  step_same (recover n v) u = let r = recover_same n v u in (ap (λ (j : ℕ). Ok (report j n)) r.0, r.1)
 
   -- and so are the bytes
   step_left : (c : Call) → (seen accept c l).image ≡ after (plan_of accept c l) (allowance c) l → seen accept c l ≡ plain_told accept (capacity l₀) p c l

@@ -1,12 +1,14 @@
 -- What each return of format, commit and recover answers and leaves.
-use Rattle.std.specs.Prelude.{◌≡◌, refl, Bool, true, false, ◌&&◌, ℕ, ◌+◌, ◌-◌, ◌*◌, ◌≤◌, ◌<◌, List, [], ◌∷◌, ◌++◌, length, take, drop, leb, ltb, eqb}
+use Rattle.std.specs.Prelude.{◌≡◌, refl, Bool, true, false, ◌&&◌, ℕ, ◌+◌, ◌-◌, ◌*◌, ◌≤◌, ◌<◌, List, [], ◌∷◌, ◌++◌, length, take, drop, leb, ltb, eqb, Ok, Err}
 use Rattle.std.proofs.Common.{sym, ap, ◌∙◌, arith, length-take, length-append, length-drop}
 use Rattle.std.proofs.Math.Seq.{take-nil}
 use borrow.Author.Tests.{le-leb, lt-leb, lt-ltb, ltb-true, le-ltb, eq-eqb, eqb-true, ne_eqb}
 use Rattle.wire.specs.BytesLaws.{length-zeros_but}
 use Rattle.wire.specs.Bytes.{zeros_but, pick, bytes16}
 use Rattle.wire.specs.Cases.{and_false, both}
-use Rattle.wire.specs.Rules.{first}
+use Rattle.refusals.specs.declared.Refusal.{Refusal}
+use Rattle.refusals.specs.declared.Refusal.TheVariants.{Unrecovered, BadLog, SpaceLength, LogShort, Sizes}
+use Rattle.refusals.specs.Rules.{first}
 use Rattle.wire.specs.All.{All, all_map}
 use Rattle.redo.specs.Store.{Store, run}
 use Rattle.redo.specs.StoreLaws.{apply-none, length_run, run-append}
@@ -18,25 +20,25 @@ use Rattle.redo.specs.Stores.{format_stores, clear_mark, recover_stores, commit_
 use Rattle.redo.specs.StoresLaws.{length_recover}
 use Rattle.redo.specs.Stage.{Stage, Makes, stage_more}
 use Rattle.redo.specs.Stages.{commit_needs}
-use Rattle.image_log.specs.declared.Outcome.TheVariants.{Done, Cut, Refused}
+use Rattle.image_log.specs.declared.Stored.TheVariants.{Done, Cut}
 use Rattle.image_log.specs.Calls.{Plan, refuse, store, answer, after, formattable, format_rules, format_plan, log_of, log_ok, recover_rules, recover_plan, changed_pages, commit_rules, commit_plan, any_bytes}
 
 -- ---- any call
 
-pub refused_is : (p : Plan) (r n : ℕ) (l : List ℕ) → p ≡ refuse r → (Refused r ≡ answer p n) × (l ≡ after p n l)
+pub refused_is : (p : Plan) (r : Refusal) (n : ℕ) (l : List ℕ) → p ≡ refuse r → (Err r ≡ answer p n) × (l ≡ after p n l)
 unfolding answer after
 refused_is p r n l e = rw e (refl, refl)
 
-pub nothing_is : (p : Plan) (n : ℕ) (l : List ℕ) → p ≡ store [] → (Done 0 ≡ answer p n) × (l ≡ after p n l)
+pub nothing_is : (p : Plan) (n : ℕ) (l : List ℕ) → p ≡ store [] → (Ok (Done 0) ≡ answer p n) × (l ≡ after p n l)
 unfolding answer after
 nothing_is p n l e = rw (e, take-nil, le-leb 0 n (omega arith)) (refl, sym (apply-none l))
 
-pub not_store : (ss : List Store) (r : ℕ) → refuse r ≡ store ss → ⊥
-not_store ss r e = let z : ◌≡◌ {A = ℕ} 0 1 = cc in omega arith
+pub not_store : (ss : List Store) (r : Refusal) → refuse r ≡ store ss → ⊥
+not_store ss r e = cc
 
 -- the whole call's stores as one stage: its answer and the bytes it leaves
 pub stage_answer : {n n' m' : ℕ} {ss : List Store} {l l' : List ℕ} (need : ℕ) → length ss ≡ need → Stage n 0 ss l n' m' l'
-    → (pick (leb need n) (Done m') (Cut m') ≡ answer (store ss) n) × (l' ≡ after (store ss) n l)
+    → (Ok (pick (leb need n) (Done m') (Cut m')) ≡ answer (store ss) n) × (l' ≡ after (store ss) n l)
 unfolding answer after
 stage_answer {n} {ss} need e s =
     let made : ◌≡◌ {A = ℕ} _ (length (take n ss)) = s.made ∙ rw (length-take n ss) (omega arith) in
@@ -53,7 +55,7 @@ module _ (l : List ℕ) (ok : head_ok l ≡ true) where
   unfolding recover_plan recover_rules first
   recover_committed_lem m e = rw (ok, m, e)
 
-  pub recover_mislogged : mark l ≡ 165 → log_ok l ≡ false → recover_plan l ≡ refuse 4
+  pub recover_mislogged : mark l ≡ 165 → log_ok l ≡ false → recover_plan l ≡ refuse BadLog
   unfolding recover_plan recover_rules first
   recover_mislogged m e = rw (ok, m, e)
 
@@ -63,7 +65,7 @@ module _ (l : List ℕ) (ok : head_ok l ≡ true) where
 
 -- the one store over a spoiled mark
 pub cleared_is : {n m' : ℕ} {l l' : List ℕ} → Makes n (run 10 (0 ∷ [])) l m' l'
-    → (pick (leb 1 n) (Done m') (Cut m') ≡ answer (store clear_mark) n) × (l' ≡ after (store clear_mark) n l)
+    → (Ok (pick (leb 1 n) (Done m') (Cut m')) ≡ answer (store clear_mark) n) × (l' ≡ after (store clear_mark) n l)
 unfolding clear_mark
 cleared_is s = stage_answer 1 (length_run 10 (0 ∷ [])) s
 
@@ -92,23 +94,23 @@ module _ (l : List ℕ) where
   -- its stores were made, as far as the allowance goes
   pub recovered_is : {n n' m' : ℕ} {l' : List ℕ} (p : Plan) → p ≡ store (recover_stores (home_at l) (log_of l)) → entry_at (count l) ≤ length l
       → Stage n 0 (recover_stores (home_at l) (log_of l)) l n' m' l'
-      → (pick (leb (64 * count l + 1) n) (Done m') (Cut m') ≡ answer p n) × (l' ≡ after p n l)
+      → (Ok (pick (leb (64 * count l + 1) n) (Done m') (Cut m')) ≡ answer p n) × (l' ≡ after p n l)
   recovered_is p e g s =
       let long = length_recover (home_at l) (entries_long l 0 (count l) (omega arith)) ∙ ap (λ (k : ℕ). 64 * k + 1) (length-entries l 0 (count l)) in
       rw e (stage_answer (64 * count l + 1) long s)
 
 -- ---- commit
 
-pub commit_marked : (accept : List ℕ → Bool) (l w : List ℕ) → head_ok l ≡ true → (mark l ≡ 0 → ⊥) → commit_plan accept l w ≡ refuse 3
+pub commit_marked : (accept : List ℕ → Bool) (l w : List ℕ) → head_ok l ≡ true → (mark l ≡ 0 → ⊥) → commit_plan accept l w ≡ refuse Unrecovered
 unfolding commit_plan commit_rules first
 commit_marked accept l w ok f = rw (ok, ne_eqb (mark l) 0 f)
 
 module _ (l w : List ℕ) (ok : head_ok l ≡ true) (m : mark l ≡ 0) where
-  pub other_length : (length w ≡ 64 * pages l → ⊥) → commit_plan any_bytes l w ≡ refuse 6
+  pub other_length : (length w ≡ 64 * pages l → ⊥) → commit_plan any_bytes l w ≡ refuse SpaceLength
   unfolding commit_plan commit_rules first
   other_length f = rw (ok, m, ne_eqb (length w) (64 * pages l) f)
 
-  pub many-pages : length w ≡ 64 * pages l → capacity l < length (changed_pages l w) → commit_plan any_bytes l w ≡ refuse 13
+  pub many-pages : length w ≡ 64 * pages l → capacity l < length (changed_pages l w) → commit_plan any_bytes l w ≡ refuse LogShort
   unfolding commit_plan commit_rules first
   many-pages e g = rw (ok, m, eq-eqb (length w) (64 * pages l) e, lt-ltb (capacity l) (length (changed_pages l w)) g)
 
@@ -124,7 +126,7 @@ module _ (l w : List ℕ) where
 
 -- its stores were made, as far as the allowance goes; home stands at h and has q pages, of which k differ from the workspace w
 pub commit_answer : (l : List ℕ) (h : ℕ) (w : List ℕ) (q k : ℕ) → Loggable l h w q k → 0 < k → {n n' m' : ℕ} {l' : List ℕ} → Stage n 0 (commit_stores h (changes (drop h l) w q)) l n' m' l'
-    → (pick (leb (130 * k + 4) n) (Done m') (Cut m') ≡ answer (store (commit_stores h (changes (drop h l) w q))) n) × (l' ≡ after (store (commit_stores h (changes (drop h l) w q))) n l)
+    → (Ok (pick (leb (130 * k + 4) n) (Done m') (Cut m')) ≡ answer (store (commit_stores h (changes (drop h l) w q))) n) × (l' ≡ after (store (commit_stores h (changes (drop h l) w q))) n l)
 commit_answer l h w q k fit some s = stage_answer (130 * k + 4) (commit_needs l h w q k fit some) s
 
 -- ---- format
@@ -157,13 +159,13 @@ pub format_stages : {n n₁ m₁ n₂ m₂ n₃ m₃ n₄ m₄ : ℕ} {l l₁ l�
     → Stage n₁ m₁ (run 1 (take 63 (drop 1 (head_page L R)))) l₁ n₂ m₂ l₂
     → Stage n₂ m₂ (run 64 (zeros_but (66 * L + p) v (image_length L R - 64))) l₂ n₃ m₃ l₃
     → Stage n₃ m₃ (run 0 (take 1 (drop 0 (head_page L R)))) l₃ n₄ m₄ l₄
-    → (pick (leb (image_length L R + 1) n) (Done m₄) (Cut m₄) ≡ answer (store (format_stores L R p v)) n) × (l₄ ≡ after (store (format_stores L R p v)) n l)
+    → (Ok (pick (leb (image_length L R + 1) n) (Done m₄) (Cut m₄)) ≡ answer (store (format_stores L R p v)) n) × (l₄ ≡ after (store (format_stores L R p v)) n l)
 unfolding format_stores
 format_stages {n} {n₄ = n₄} {m₄ = m₄} {l} {l₄ = l₄} L R p v g a b c d =
     let all : Stage n 0 (format_stores L R p v) l n₄ m₄ l₄ = stage_more a (stage_more (rw (← format_runs L R p v) at (stage_more b c)) (rw (format_first L R) at d)) in
     stage_answer (image_length L R + 1) (length_format L R p v g) all
 
-pub format_unfit : (l : List ℕ) (L R p v : ℕ) → formattable l L R p ≡ false → format_plan l L R p v ≡ refuse 14
+pub format_unfit : (l : List ℕ) (L R p v : ℕ) → formattable l L R p ≡ false → format_plan l L R p v ≡ refuse Sizes
 unfolding format_plan format_rules first
 format_unfit l L R p v e = rw e
 
@@ -188,7 +190,7 @@ pub formattable_when : (l : List ℕ) (L R p : ℕ) → Formattable l L R p → 
 unfolding formattable
 formattable_when l L R p f = rw (f.sizes, eq-eqb (length l) (image_length L R) f.long, lt-ltb p (64 * (26 + R)) f.inside)
 
--- tested in two steps
+-- by its tests in turn
 pub formattable-none : (l : List ℕ) (L R p : ℕ) → in_range L R ≡ false → false ≡ formattable l L R p
 unfolding formattable
 formattable-none l L R p e = rw e

@@ -1,12 +1,14 @@
 -- Lists of commits and recoveries, and the book that foretells what each answers and leaves.
-use Rattle.std.specs.Prelude.{ℕ, ◌+◌, ◌-◌, ◌*◌, ◌/◌, min, Bool, not, List, [], ◌∷◌, length, drop, leb, ltb, eqb}
+use Rattle.std.specs.Prelude.{ℕ, ◌+◌, ◌-◌, ◌*◌, ◌/◌, min, Bool, not, List, [], ◌∷◌, length, drop, leb, ltb, eqb, Ok, Err}
 use Rattle.wire.specs.Bytes.{pick}
-use Rattle.wire.specs.Rules.{Rule, rule, first}
+use Rattle.refusals.specs.declared.Refusal.{Refusal}
+use Rattle.refusals.specs.declared.Refusal.TheVariants.{Unrecovered, SpaceLength, UnsoundSpace, LogShort}
+use Rattle.refusals.specs.Rules.{Rule, rule, first}
 use Rattle.redo.specs.Store.{Store, halfway}
 use Rattle.redo.specs.Entry.{changes}
-use Rattle.image_log.specs.declared.Outcome.{Outcome}
-use Rattle.image_log.specs.declared.Outcome.TheVariants.{Done, Cut, Refused}
-use Rattle.image_log.specs.Calls.{Plan, refuse, store, answer, after, recover_plan, commit_plan}
+use Rattle.image_log.specs.declared.Stored.{Stored}
+use Rattle.image_log.specs.declared.Stored.TheVariants.{Done, Cut}
+use Rattle.image_log.specs.Calls.{Outcome, Plan, refuse, store, answer, after, recover_plan, commit_plan}
 
 -- ---- the calls, as the contracts of commit and recover have them, and the byte caught where one is cut
 
@@ -72,17 +74,17 @@ differing H w = length (changes H w (length H / 64))
 
 -- a commit is refused, or has k pages to write
 pub data Verdict : Type 0 where
-  refused : ℕ → Verdict
+  refused : Refusal → Verdict
   writes : ℕ → Verdict
 
 -- 6 if w isn't as long as H, 7 if w isn't accepted, 13 if k is above L
 unfoldable pub kept_rules : (List ℕ → Bool) → ℕ → List ℕ → List ℕ → List Rule
-kept_rules accept L H w = rule 6 (not (eqb (length w) (length H))) ∷ rule 7 (not (accept w)) ∷ rule 13 (ltb L (differing H w)) ∷ []
+kept_rules accept L H w = rule SpaceLength (not (eqb (length w) (length H))) ∷ rule UnsoundSpace (not (accept w)) ∷ rule LogShort (ltb L (differing H w)) ∷ []
 
 -- before them 3, for every mark but 0
 unfoldable pub book_rules : (List ℕ → Bool) → ℕ → Book → List ℕ → List Rule
 unfolding kept_rules
-book_rules accept L b w = rule 3 (not (eqb b.mark 0)) ∷ kept_rules accept L b.kept w
+book_rules accept L b w = rule Unrecovered (not (eqb b.mark 0)) ∷ kept_rules accept L b.kept w
 
 unfoldable pub judge : (List ℕ → Bool) → ℕ → Book → List ℕ → Verdict
 judge accept L b w = first refused (book_rules accept L b w) (writes (differing b.kept w))
@@ -99,12 +101,12 @@ unfoldable pub recover_need : Book → ℕ
 recover_need b = need_by (eqb b.mark 0) b.owed
 
 -- it makes n or what it needs, whichever is less, and is done if n is at least the need, otherwise cut
-unfoldable pub report : ℕ → ℕ → Outcome
+unfoldable pub report : ℕ → ℕ → Stored
 report need n = pick (leb need n) (Done (min n need)) (Cut (min n need))
 
 unfoldable pub answer_to : Verdict → ℕ → Outcome
-answer_to (refused r) n = Refused r
-answer_to (writes k) n = report (commit_need k) n
+answer_to (refused r) n = Err r
+answer_to (writes k) n = Ok (report (commit_need k) n)
 
 -- all entries of w's k pages and their count are stored
 unfoldable pub logs : Book → List ℕ → ℕ → Book
@@ -138,7 +140,7 @@ book_at b (writes k) w n v = pick (eqb k 0) b (committing b w k n v)
 
 unfoldable pub foretold : (List ℕ → Bool) → ℕ → Book → Call → Outcome
 foretold accept L b (commit w n v) = answer_to (judge accept L b w) n
-foretold accept L b (recover n v) = report (recover_need b) n
+foretold accept L b (recover n v) = Ok (report (recover_need b) n)
 
 unfoldable pub next : (List ℕ → Bool) → ℕ → Book → Call → Book
 next accept L b (commit w n v) = book_at b (judge accept L b w) w n v
@@ -153,9 +155,9 @@ book_after accept L (c ∷ cs) b = book_after accept L cs (next accept L b c)
 -- every byte as the call's stores leave it, after the number of them that the answer gives, and the next one's as told if the call is cut;
 -- after a refusal, as before
 unfoldable pub left_by : Outcome → Plan → ℕ → List ℕ → List ℕ
-left_by (Done m) p v l = after p m l
-left_by (Cut m) p v l = caught p m v l
-left_by (Refused r) p v l = l
+left_by (Ok (Done m)) p v l = after p m l
+left_by (Ok (Cut m)) p v l = caught p m v l
+left_by (Err r) p v l = l
 
 unfoldable pub told : (List ℕ → Bool) → ℕ → Book → Call → List ℕ → Seen
 told accept L b c l = record { answered = foretold accept L b c; image = left_by (foretold accept L b c) (plan_of accept c l) (value c) l }

@@ -1,10 +1,10 @@
 -- The claim about whole lists of commits and recoveries, cut and caught anywhere, refused ones included.
-use Rattle.std.specs.Prelude.{◌≡◌, Bool, not, length, eqb}
+use Rattle.std.specs.Prelude.{◌≡◌, Bool, not, length, eqb, Ok}
 use Rattle.std.proofs.Math.Bool.{true}
 use Prim.Native.Nat.{ℕ}
 use mathlib.Core.List.{List}
 use Rattle.redo.specs.Image.{capacity, record_pages, mark, home, head_ok}
-use Rattle.image_log.specs.declared.Outcome.TheVariants.{Done}
+use Rattle.image_log.specs.declared.Stored.TheVariants.{Done}
 use Rattle.image_log.specs.Calls.{answer, after, recover_plan}
 use Rattle.image_log.specs.Book.{Call, report, recover_need, trace, Book, start, ledger}
 
@@ -25,9 +25,9 @@ pub record Claim (accept : List ℕ → Bool) (l : List ℕ) (cs : List Call) (b
   -- with every mark but 165 the home bytes are H
   pub stands : (mark x ≡ 165 → ⊥) → home x ≡ b.kept
   -- with any mark, a recovery is done next if it is allowed no store with mark 0, 64p + 1 with mark 165, one with any other, and otherwise cut
-  pub needs : (n : ℕ) → answer (recover_plan x) n ≡ report (recover_need b) n
+  pub needs : (n : ℕ) → answer (recover_plan x) n ≡ Ok (report (recover_need b) n)
   -- one that is done leaves home bytes H and mark 0
-  pub recovers : (n m : ℕ) → answer (recover_plan x) n ≡ Done m → (home (after (recover_plan x) n x) ≡ b.kept) × (mark (after (recover_plan x) n x) ≡ 0)
+  pub recovers : (n m : ℕ) → answer (recover_plan x) n ≡ Ok (Done m) → (home (after (recover_plan x) n x) ≡ b.kept) × (mark (after (recover_plan x) n x) ≡ 0)
   -- length, L and R are as at the start
   pub long : length x ≡ length l
   pub same_capacity : capacity x ≡ capacity l

@@ -1,5 +1,5 @@
 -- What a format leaves: an empty image once it is finished, and, cut after a store, bytes that every other call refuses with 1.
-use Rattle.std.specs.Prelude.{◌≡◌, Bool, true, false, take, get_or, set}
+use Rattle.std.specs.Prelude.{◌≡◌, Bool, true, false, take, get_or, set, Err}
 use Rattle.std.proofs.Math.Path.{refl, sym, ap}
 use Rattle.std.proofs.Common.{◌∙◌, drop_at, drop-drop}
 use Prim.Native.Nat.{ℕ, zero, suc, ◌+◌, ◌-◌, ◌*◌, ◌≤◌, ◌<◌}
@@ -11,14 +11,14 @@ use borrow.Author.Tests.{le-leb, eq-eqb}
 use Rattle.wire.specs.Bytes.{part, over, get16, bytes16, equal, blank, zeros_but}
 use Rattle.wire.specs.BytesLaws.{over_whole, part_at, drop-zeros_but}
 use Rattle.wire.specs.Cases.{by_test}
-use Rattle.wire.specs.Rules.{first}
+use Rattle.refusals.specs.Rules.{first}
 use Rattle.wire.specs.All.{all_take}
 use Rattle.redo.specs.Store.{apply, run}
 use Rattle.redo.specs.StoreLaws.{apply-none, apply-append, apply-run, go_run, kept, length_run}
 use Rattle.redo.specs.Image.{letters, capacity, record_pages, count, mark, home, in_range, image_length, head_ok, head_page, empty_image}
 use Rattle.redo.specs.ImageLaws.{in_range_lem, head_right}
 use Rattle.redo.specs.Stores.{format_stores}
-use Rattle.image_log.specs.declared.Head.TheVariants.{Bad}
+use Rattle.refusals.specs.declared.Refusal.TheVariants.{BadHead}
 use Rattle.image_log.specs.Head.{head_of}
 use Rattle.image_log.specs.HeadLaws.{head_bad, bad_head}
 use Rattle.image_log.specs.Calls.{refuse, after, formattable, format_plan, recover_rules, recover_plan, commit_rules, commit_plan}
@@ -67,16 +67,16 @@ module _ (l : List ℕ) (L R p v : ℕ) (small : p < 64 * (26 + R)) (fits : in_r
       rw (format_fits l L R p v fits_all, take-append-le n (run 1 D) (run 0 (take 1 letters)) short)
       (kept (λ a. 1 ≤ a) (set l 0 0) 0 (all_take n (go_run (λ a. 1 ≤ a) 1 D (λ i a b. a))) (λ a. omega arith) ∙ get_or-set_same l 0 0 0 (omega arith))
 
-  pub format_cut : (n : ℕ) → 1 ≤ n → n ≤ image_length L R → head_of (after (format_plan l L R p v) n l) ≡ Bad
+  pub format_cut : (n : ℕ) → 1 ≤ n → n ≤ image_length L R → head_of (after (format_plan l L R p v) n l) ≡ Err BadHead
   format_cut n g h = head_bad (after (format_plan l L R p v) n l) (other_letter (after (format_plan l L R p v) n l) (first-zero n g h))
 
 -- so commit and recover refuse it with 1
-module _ (x : List ℕ) (e : head_of x ≡ Bad) where
-  pub unformatted_recover : recover_plan x ≡ refuse 1
+module _ (x : List ℕ) (e : head_of x ≡ Err BadHead) where
+  pub unformatted_recover : recover_plan x ≡ refuse BadHead
   unfolding recover_plan recover_rules first
   unformatted_recover = rw (bad_head x e)
 
-  pub unformatted_commit : (accept : List ℕ → Bool) (w : List ℕ) → commit_plan accept x w ≡ refuse 1
+  pub unformatted_commit : (accept : List ℕ → Bool) (w : List ℕ) → commit_plan accept x w ≡ refuse BadHead
   unfolding commit_plan commit_rules first
   unformatted_commit accept w = rw (bad_head x e)
 

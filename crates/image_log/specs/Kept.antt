@@ -1,9 +1,9 @@
 -- The claim in the user's words: which index is found after a switch-off, and that a completed commit is kept.
-use Rattle.std.specs.Prelude.{◌≡◌, Bool, ◌⊎◌}
+use Rattle.std.specs.Prelude.{◌≡◌, Bool, ◌⊎◌, Ok}
 use Prim.Native.Nat.{ℕ, ◌+◌, ◌*◌, ◌≤◌, ◌<◌}
 use mathlib.Core.List.{List}
 use Rattle.redo.specs.Image.{capacity, mark, home}
-use Rattle.image_log.specs.declared.Outcome.TheVariants.{Done}
+use Rattle.image_log.specs.declared.Stored.TheVariants.{Done}
 use Rattle.image_log.specs.Calls.{answer, after, recover_plan, commit_plan}
 use Rattle.image_log.specs.Book.{Call, recover, Book, start, book_after}
 
@@ -36,4 +36,4 @@ pub record Finds (n v k : ℕ) (old w found : List ℕ) : Type 0 where
 -- what is found in x: with mark 0 home at once, and with any mark what the first recovery to finish leaves, with mark 0
 pub record Found (n v k : ℕ) (old w x : List ℕ) : Type 0 where
   pub at_once : mark x ≡ 0 → Finds n v k old w (home x)
-  pub finished : (j m : ℕ) → answer (recover_plan x) j ≡ Done m → Finds n v k old w (home (recovered x j)) × (mark (recovered x j) ≡ 0)
+  pub finished : (j m : ℕ) → answer (recover_plan x) j ≡ Ok (Done m) → Finds n v k old w (home (recovered x j)) × (mark (recovered x j) ≡ 0)

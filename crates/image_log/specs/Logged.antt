@@ -1,8 +1,8 @@
 -- A log that is whole, and what a commit and a recovery, torn anywhere, leave of an image.
-use Rattle.std.specs.Prelude.{◌≡◌, refl, true, set, leb}
+use Rattle.std.specs.Prelude.{◌≡◌, refl, true, set, leb, Ok}
 use Rattle.std.proofs.Common.{sym, ◌∙◌, inr, arith, length-take, take_all, get_or-set_same}
 use Rattle.std.proofs.Math.Path.{ap, ap₂}
-use Prim.Native.Nat.{ℕ, ◌+◌, ◌*◌, ◌≤◌, ◌<◌, min}
+use Prim.Native.Nat.{ℕ, ◌+◌, ◌*◌, ◌≤◌, ◌<◌}
 use Rattle.std.proofs.Math.Nat.{min-eq_left}
 use mathlib.Core.List.{List, [], ◌∷◌}
 use Rattle.std.proofs.Math.ListN.{length, drop}
@@ -25,7 +25,7 @@ use Rattle.image_log.specs.Book.{report, rest, caught, left_by}
 
 -- ---- a plan's answer and bytes as the book puts them
 
-pub answer-report : (ss : List Store) (n : ℕ) → answer (store ss) n ≡ report (length ss) n
+pub answer-report : (ss : List Store) (n : ℕ) → answer (store ss) n ≡ Ok (report (length ss) n)
 unfolding answer report
 answer-report ss n = rw length-take
 
@@ -34,7 +34,7 @@ pub caught_is : (ss : List Store) (n v : ℕ) (l : List ℕ) → caught (store s
 unfolding caught rest after
 caught_is ss n v l = torn_is n v ss l
 
-pub caught-report : (ss : List Store) (n v : ℕ) (l : List ℕ) → caught (store ss) n v l ≡ left_by (report (length ss) n) (store ss) v l
+pub caught-report : (ss : List Store) (n v : ℕ) (l : List ℕ) → caught (store ss) n v l ≡ left_by (Ok (report (length ss) n)) (store ss) v l
 unfolding left_by report after
 caught-report ss n v l = by_test (leb (length ss) n)
     (λ e.
@@ -42,10 +42,8 @@ caught-report ss n v l = by_test (leb (length ss) n)
     rw e (caught_is ss n v l ∙ ap (λ (t : List Store). apply t l) (torn_all n v ss g ∙ sym (take_all n ss g) ∙ sym (take_min n ss))))
     (λ e.
     let g : n < length ss = leb-false (length ss) n e in
-    rw (e, least n (length ss) (omega arith)))
-  where
-    least : (a b : ℕ) → a ≤ b → min a b ≡ a
-    least a b g = min-eq_left g
+    let h : n ≤ length ss = omega arith in
+    rw (e, min-eq_left h))
 
 -- ---- a log that is whole
 

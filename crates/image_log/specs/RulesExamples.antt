@@ -1,7 +1,7 @@
 -- The numbers of each call's rules, and of the book's for a commit.
 use Rattle.std.specs.Prelude.{◌≡◌, Bool, ℕ, List, [], ◌∷◌}
 use Rattle.std.proofs.Math.Path.{refl}
-use Rattle.wire.specs.Rules.{numbers}
+use Rattle.refusals.specs.Rules.{numbers}
 use Rattle.image_log.specs.Calls.{format_rules, recover_rules, commit_rules}
 use Rattle.image_log.specs.Book.{Book, book_rules}
 use Rattle.image_log.specs.Uncaught.{Plain, plain_rules}

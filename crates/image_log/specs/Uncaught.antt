@@ -1,12 +1,12 @@
 -- Lists of calls in which no byte is caught: each leaves the image as its stores do, and the book needs no more than H and p.
-use Rattle.std.specs.Prelude.{◌≡◌, Bool, true, ◌&&◌, not, ℕ, ◌+◌, ◌*◌, List, [], ◌∷◌, length, get_or, leb, eqb}
+use Rattle.std.specs.Prelude.{◌≡◌, Bool, true, ◌&&◌, not, ℕ, ◌+◌, ◌*◌, List, [], ◌∷◌, length, get_or, leb, eqb, Ok, Err}
 use Rattle.wire.specs.Bytes.{pick}
-use Rattle.wire.specs.Rules.{Rule, rule, first}
+use Rattle.refusals.specs.declared.Refusal.TheVariants.{Unrecovered}
+use Rattle.refusals.specs.Rules.{Rule, rule, first}
 use Rattle.redo.specs.Store.{Store}
 use Rattle.redo.specs.Image.{capacity, record_pages, mark, home}
-use Rattle.image_log.specs.declared.Outcome.{Outcome}
-use Rattle.image_log.specs.declared.Outcome.TheVariants.{Done, Cut, Refused}
-use Rattle.image_log.specs.Calls.{Plan, answer, after, recover_plan}
+use Rattle.image_log.specs.declared.Stored.TheVariants.{Done, Cut}
+use Rattle.image_log.specs.Calls.{Outcome, Plan, answer, after, recover_plan}
 use Rattle.image_log.specs.Book.{Call, commit, recover, allowance, plan_of, rest, Seen, seen, trace, Verdict, refused, differing, writes, kept_rules, need_by, commit_need, report, answer_to}
 
 -- ---- the book: it is not told of bytes
@@ -22,7 +22,7 @@ plain_start H = record { kept = H; owed = 0 }
 -- "3 if p isn't 0"; else 6, 7, 13
 unfoldable pub plain_rules : (List ℕ → Bool) → ℕ → Plain → List ℕ → List Rule
 unfolding kept_rules
-plain_rules accept L p w = rule 3 (not (eqb p.owed 0)) ∷ kept_rules accept L p.kept w
+plain_rules accept L p w = rule Unrecovered (not (eqb p.owed 0)) ∷ kept_rules accept L p.kept w
 
 unfoldable pub plain_judge : (List ℕ → Bool) → ℕ → Plain → List ℕ → Verdict
 plain_judge accept L p w = first refused (plain_rules accept L p w) (writes (differing p.kept w))
@@ -42,7 +42,7 @@ plain_at p (writes k) w n = pick (mark_stored k n) (record { kept = w; owed = pi
 
 unfoldable pub plain_foretold : (List ℕ → Bool) → ℕ → Plain → Call → Outcome
 plain_foretold accept L p (commit w n v) = answer_to (plain_judge accept L p w) n
-plain_foretold accept L p (recover n v) = report (plain_need p) n
+plain_foretold accept L p (recover n v) = Ok (report (plain_need p) n)
 
 -- a recovery that is done leaves nothing owed; cut, it leaves H and p as they were
 unfoldable pub plain_next : (List ℕ → Bool) → ℕ → Plain → Call → Plain
@@ -55,9 +55,9 @@ plain_after accept L (c ∷ cs) p = plain_after accept L cs (plain_next accept L
 
 -- every byte as the call's stores leave it, after the number of them that the answer gives; after a refusal, as before
 unfoldable pub plain_left : Outcome → Plan → List ℕ → List ℕ
-plain_left (Done m) p l = after p m l
-plain_left (Cut m) p l = after p m l
-plain_left (Refused r) p l = l
+plain_left (Ok (Done m)) p l = after p m l
+plain_left (Ok (Cut m)) p l = after p m l
+plain_left (Err r) p l = l
 
 unfoldable pub plain_told : (List ℕ → Bool) → ℕ → Plain → Call → List ℕ → Seen
 plain_told accept L p c l = record { answered = plain_foretold accept L p c; image = plain_left (plain_foretold accept L p c) (plan_of accept c l) l }
@@ -100,7 +100,7 @@ pub record PlainClaim (accept : List ℕ → Bool) (l : List ℕ) (cs : List Cal
   -- "with mark 0 the home bytes are H"
   pub stands : mark x ≡ 0 → home x ≡ p.kept
   -- "with either mark, a recovery that finishes next leaves home bytes H and mark 0"
-  pub recovers : (n m : ℕ) → answer (recover_plan x) n ≡ Done m → (home (after (recover_plan x) n x) ≡ p.kept) × (mark (after (recover_plan x) n x) ≡ 0)
+  pub recovers : (n m : ℕ) → answer (recover_plan x) n ≡ Ok (Done m) → (home (after (recover_plan x) n x) ≡ p.kept) × (mark (after (recover_plan x) n x) ≡ 0)
   -- "Length, L and R are as at the start"
   pub long : length x ≡ length l
   pub same_capacity : capacity x ≡ capacity l

@@ -1,21 +1,25 @@
 -- Begin and the edits, each behind the rules of what it is lent, and format.
-use Rattle.std.specs.Prelude.{ℕ, not, ◌&&◌, List, [], ◌∷◌, length, leb, eqb}
-use Rattle.wire.specs.Rules.{Rule, rule, first, Ruled, behind}
+use Rattle.std.specs.Prelude.{ℕ, not, ◌&&◌, List, [], ◌∷◌, length, leb, eqb, Ok}
+use Rattle.std.specs.declared.result.Result.{Result}
+use Rattle.refusals.specs.declared.Refusal.{Refusal}
+use Rattle.refusals.specs.declared.Refusal.TheVariants.{SpaceLength, Sizes}
+use Rattle.refusals.specs.Rules.{Answer, Rule, rule, first, Ruled, behind}
 use Rattle.records.specs.declared.Record.{Record}
 use Rattle.redo.specs.Image.{home}
 use Rattle.redo.specs.Stores.{format_stores}
 use Rattle.image_log.specs.Calls.{Plan, refuse, store, formattable}
-use Rattle.home.specs.declared.Answer.{Answer}
 use Rattle.edits.specs.declared.Terminal.{Terminal}
 use Rattle.edits.specs.Edits.{put_in, delete_in, set_in, drop_in}
 use Rattle.gates.specs.declared.Of.TheVariants.{Image, Space}
 use Rattle.gates.specs.Gates.{gate_rules}
-use Rattle.index.specs.declared.Begun.{Begun}
-use Rattle.index.specs.declared.Begun.TheVariants.{Done}
+
+-- what begin answers
+abbrev pub Begun : Type 0
+Begun = Result (Unit {0}) Refusal
 
 -- "copies home to a workspace of the same length": "6: workspace length doesn't match the image"; it doesn't look at the workspace's old bytes
 abbrev pub copied : List ℕ → List ℕ → Ruled Begun
-copied h w = record { rules = rule 6 (not (eqb (length w) (length h))) ∷ []; answer = Done; bytes = h }
+copied h w = record { rules = rule SpaceLength (not (eqb (length w) (length h))) ∷ []; answer = Ok tt; bytes = h }
 
 unfoldable pub begin_call : List ℕ → List ℕ → Ruled Begun
 begin_call l w = behind (gate_rules Image l) (copied (home l) w)
@@ -38,7 +42,7 @@ drop_call w t = behind (gate_rules Space w) (drop_in w t)
 
 -- "Format takes the code", and stores it as home's byte 122; "It refuses a code other than 0 and 1 with 14 at format"
 unfoldable pub format_rules : List ℕ → ℕ → ℕ → ℕ → List Rule
-format_rules l L R step = rule 14 (not (leb step 1 && formattable l L R 122)) ∷ []
+format_rules l L R step = rule Sizes (not (leb step 1 && formattable l L R 122)) ∷ []
 
 unfoldable pub format_plan : List ℕ → ℕ → ℕ → ℕ → Plan
 format_plan l L R step = first refuse (format_rules l L R step) (store (format_stores L R 122 step))

@@ -1,4 +1,6 @@
 -- The four edits: where one is not refused there is room for the list that it makes, and the layout stays valid.
+use Rattle.refusals.specs.declared.Refusal.{Refusal}
+use Rattle.refusals.specs.declared.Refusal.TheVariants.{BuildingFull, Listed, NoRoom, TagsFull, Unknown}
 use Rattle.std.specs.Prelude.{◌≡◌, refl, true, false, not, ◌&&◌, ltb, eqb, length}
 use Rattle.std.proofs.Common.{sym, ap, ◌∙◌}
 use Rattle.std.proofs.Math.Option.{Option, none, some, IsSome}
@@ -8,8 +10,8 @@ use native.Mathlib.Omega.{arith}
 use Rattle.std.proofs.Math.Dec.{leb}
 use borrow.Author.Tests.{ltb-false, leb-false, le-leb, not-false}
 use Rattle.wire.specs.Cases.{never}
-use Rattle.wire.specs.Rules.{refusal}
-use Rattle.wire.specs.RulesLaws.{passes}
+use Rattle.refusals.specs.Rules.{refusal}
+use Rattle.refusals.specs.RulesLaws.{passes}
 use Rattle.wire.specs.All.{All, none as nothing, more, all_append, all_map}
 use Rattle.wire.specs.Bytes.{is_some}
 use Rattle.records.specs.declared.Record.{Record}
@@ -173,7 +175,7 @@ module _ (cells class_of : ℕ → ℕ) (up : Rising cells class_of) where
     proper = valid-listed n t zs v
 
     known : (k : ℕ) → refusal (record_rules t k zs) ≡ none → has_tag t (blocks zs) ≡ true
-    known k e = has_held t k (blocks zs) (not-false (held (look k list)) (passes 9 (not (held (look k list))) [] e).0)
+    known k e = has_held t k (blocks zs) (not-false (held (look k list)) (passes Unknown (not (held (look k list))) [] e).0)
 
     -- "A delete never meets it": where the record is listed there is room
     pub delete_fine : (k : ℕ) → refusal (delete t k zs).rules ≡ none → Fine (delete t k zs).list
@@ -186,21 +188,21 @@ module _ (cells class_of : ℕ → ℕ) (up : Rising cells class_of) where
 
     pub drop_fine : refusal (drop_tag t zs).rules ≡ none → Fine []
     unfolding drop_tag
-    drop_fine e = no_longer [] (record { rising = rising-nil 0; fits = nothing; short = omega arith }) (omega arith) (not-false (has_tag t (blocks zs)) (passes 9 (not (has_tag t (blocks zs))) [] e).0)
+    drop_fine e = no_longer [] (record { rising = rising-nil 0; fits = nothing; short = omega arith }) (omega arith) (not-false (has_tag t (blocks zs)) (passes Unknown (not (has_tag t (blocks zs))) [] e).0)
 
     -- the dictionary has an entry for it
     free_new : (rs : List Record) → 0 < length rs → not (has_tag t (blocks zs)) && leb 256 (length (blocks zs)) ≡ false → Free rs
     free_new [] h o = absurd (omega arith)
     free_new (r ∷ rs) h o = λ k. leb-false 256 (length (blocks zs)) (rw k at o)
 
-    pub put_fine : (limit full : ℕ) → limit ≤ 989 → (r : Record) → Fits r → refusal (put cells class_of n limit full t r zs).rules ≡ none → Fine (insert r list)
+    pub put_fine : (limit : ℕ) (full : Refusal) → limit ≤ 989 → (r : Record) → Fits r → refusal (put cells class_of n limit full t r zs).rules ≡ none → Fine (insert r list)
     unfolding put
     put_fine limit full low r f e =
-        let a = passes 8 (held (look (key r) list)) _ e in
+        let a = passes Listed (held (look (key r) list)) _ e in
         let b = passes full (leb limit (length list)) _ a.1 in
-        let a19 = passes 19 (not (has_tag t (blocks zs)) && building_full t (tags (blocks zs))) _ b.1 in
-        let c = passes 11 (not (has_tag t (blocks zs)) && leb 256 (length (blocks zs))) _ a19.1 in
-        let d = passes 12 (ltb n (total_after cells class_of t (insert r list) zs)) [] c.1 in
+        let a19 = passes BuildingFull (not (has_tag t (blocks zs)) && building_full t (tags (blocks zs))) _ b.1 in
+        let c = passes TagsFull (not (has_tag t (blocks zs)) && leb 256 (length (blocks zs))) _ a19.1 in
+        let d = passes NoRoom (ltb n (total_after cells class_of t (insert r list) zs)) [] c.1 in
         let l : Proper (insert r list) = insert-listed r list f a.0 (omega (arith, leb-false limit (length list) b.0)) proper in
         record {
           listed = l;

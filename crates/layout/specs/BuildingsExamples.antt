@@ -1,7 +1,9 @@
 -- Tags of 16 buildings: together, lacking and the reserve, and what a put of one more is refused with. Numbers worked out by an independent model.
 use Rattle.std.specs.Prelude.{◌≡◌, refl, List, [], ◌∷◌, ◌++◌, map, ℕ, suc, ◌+◌, ◌*◌, length, replicate}
 use Rattle.std.proofs.Math.Option.{Option, none, some}
-use Rattle.wire.specs.Rules.{first, refusal}
+use Rattle.refusals.specs.declared.Refusal.{Refusal}
+use Rattle.refusals.specs.declared.Refusal.TheVariants.{ListFull, TagsFull, NoRoom, BuildingFull}
+use Rattle.refusals.specs.Rules.{first, refusal}
 use Rattle.records.specs.declared.Record.{Record}
 use Rattle.records.specs.Records.{tally, key, look, insert}
 use Rattle.layout.specs.Capacities.{cells, class_of}
@@ -27,15 +29,15 @@ layout_of : List ℕ → List Zone
 layout_of ts = zone 0 (map (λ (t : ℕ). record { tag = t; list = call 0 ∷ [] }) ts) ∷ replicate 29 empty
 
 -- a call of phone 1 put to a tag in an area of so many cells
-told : ℕ → List ℕ → ℕ → Option ℕ
-told area ns t = refusal (put (cells 0) (class_of 0) area 989 10 t (call 1) (layout_of (tags_from 0 ns))).rules
+told : ℕ → List ℕ → ℕ → Option Refusal
+told area ns t = refusal (put (cells 0) (class_of 0) area 989 ListFull t (call 1) (layout_of (tags_from 0 ns))).rules
 
 -- a new tag of building 0, of building 1 and of the last
-new : List ℕ → List (Option ℕ)
+new : List ℕ → List (Option Refusal)
 new ns = map (told 1360 ns) (1000 ∷ 268436456 ∷ 4026532840 ∷ [])
 
 -- the 15 without a tag lack 120
-one-building : (counts (136 ∷ []) ≡ 136 ∷ 120 ∷ 256 ∷ []) × (new (136 ∷ []) ≡ some 19 ∷ none ∷ none ∷ [])
+one-building : (counts (136 ∷ []) ≡ 136 ∷ 120 ∷ 256 ∷ []) × (new (136 ∷ []) ≡ some BuildingFull ∷ none ∷ none ∷ [])
 unfolding counts new told layout_of call tags_from up_to owned lack reserve building_full sum tally put first find has_tag look key blocks insert total_after total block_size zone cells class_of
 one-building = (refl, refl)
 
@@ -44,11 +46,11 @@ unfolding counts new told layout_of call tags_from up_to owned lack reserve buil
 one_fewer = (refl, refl)
 
 -- "Each is sure of 8 tags": where one has all that the others are not sure of, those with 7 may add their eighth, and with 8 none
-sevens : (counts (136 ∷ replicate 15 7) ≡ 241 ∷ 15 ∷ 256 ∷ []) × (new (136 ∷ replicate 15 7) ≡ some 19 ∷ none ∷ none ∷ [])
+sevens : (counts (136 ∷ replicate 15 7) ≡ 241 ∷ 15 ∷ 256 ∷ []) × (new (136 ∷ replicate 15 7) ≡ some BuildingFull ∷ none ∷ none ∷ [])
 unfolding counts new told layout_of call tags_from up_to owned lack reserve building_full sum tally put first find has_tag look key blocks insert total_after total block_size zone cells class_of
 sevens = (refl, refl)
 
-eights : (counts (136 ∷ replicate 15 8) ≡ 256 ∷ 0 ∷ 256 ∷ []) × (new (136 ∷ replicate 15 8) ≡ some 19 ∷ some 19 ∷ some 19 ∷ [])
+eights : (counts (136 ∷ replicate 15 8) ≡ 256 ∷ 0 ∷ 256 ∷ []) × (new (136 ∷ replicate 15 8) ≡ some BuildingFull ∷ some BuildingFull ∷ some BuildingFull ∷ [])
 unfolding counts new told layout_of call tags_from up_to owned lack reserve building_full sum tally put first find has_tag look key blocks insert total_after total block_size zone cells class_of
 eights = (refl, refl)
 
@@ -56,16 +58,16 @@ one_left : (counts (135 ∷ replicate 15 8) ≡ 255 ∷ 0 ∷ 255 ∷ []) × (ne
 unfolding counts new told layout_of call tags_from up_to owned lack reserve building_full sum tally put first find has_tag look key blocks insert total_after total block_size zone cells class_of
 one_left = (refl, refl)
 
-all_alike : (counts (replicate 16 16) ≡ 256 ∷ 0 ∷ 256 ∷ []) × (new (replicate 16 16) ≡ some 19 ∷ some 19 ∷ some 19 ∷ [])
+all_alike : (counts (replicate 16 16) ≡ 256 ∷ 0 ∷ 256 ∷ []) × (new (replicate 16 16) ≡ some BuildingFull ∷ some BuildingFull ∷ some BuildingFull ∷ [])
 unfolding counts new told layout_of call tags_from up_to owned lack reserve building_full sum tally put first find has_tag look key blocks insert total_after total block_size zone cells class_of
 all_alike = (refl, refl)
 
 -- "Older images may already break the reserve ..; there 11 can still occur"
-older : (counts (256 ∷ []) ≡ 256 ∷ 120 ∷ 376 ∷ []) × (new (256 ∷ []) ≡ some 19 ∷ some 11 ∷ some 11 ∷ [])
+older : (counts (256 ∷ []) ≡ 256 ∷ 120 ∷ 376 ∷ []) × (new (256 ∷ []) ≡ some BuildingFull ∷ some TagsFull ∷ some TagsFull ∷ [])
 unfolding counts new told layout_of call tags_from up_to owned lack reserve building_full sum tally put first find has_tag look key blocks insert total_after total block_size zone cells class_of
 older = (refl, refl)
 
-older_seven : (counts (248 ∷ 7 ∷ []) ≡ 255 ∷ 113 ∷ 368 ∷ []) × (new (248 ∷ 7 ∷ []) ≡ some 19 ∷ none ∷ none ∷ [])
+older_seven : (counts (248 ∷ 7 ∷ []) ≡ 255 ∷ 113 ∷ 368 ∷ []) × (new (248 ∷ 7 ∷ []) ≡ some BuildingFull ∷ none ∷ none ∷ [])
 unfolding counts new told layout_of call tags_from up_to owned lack reserve building_full sum tally put first find has_tag look key blocks insert total_after total block_size zone cells class_of
 older_seven = (refl, refl)
 
@@ -74,6 +76,6 @@ unfolding counts new told layout_of call tags_from up_to owned lack reserve buil
 bare = (refl, refl)
 
 -- "after 10 and before 11", and so before 12: in an area that 136 blocks fill. A listed tag has room in its block
-full_area : map (told 680 (136 ∷ [])) (1000 ∷ 268436456 ∷ 7 ∷ []) ≡ some 19 ∷ some 12 ∷ none ∷ []
+full_area : map (told 680 (136 ∷ [])) (1000 ∷ 268436456 ∷ 7 ∷ []) ≡ some BuildingFull ∷ some NoRoom ∷ none ∷ []
 unfolding counts new told layout_of call tags_from up_to owned lack reserve building_full sum tally put first find has_tag look key blocks insert total_after total block_size zone cells class_of
 full_area = refl

@@ -49,6 +49,6 @@ unfoldable pub table : ℕ → List ℕ
 unfolding runs capacities
 table step = runs 0 0 (capacities step)
 
--- its first 144 numbers, which a program keeps at hand
+-- its first 144 numbers, those of short lists
 unfoldable pub short : ℕ → List ℕ
 short step = take 144 (table step)

@@ -2,8 +2,7 @@
 use Rattle.std.specs.Prelude.{◌≡◌, refl, Bool, true, false, List, ◌∷◌}
 use Rattle.std.proofs.Common.{ap}
 use Rattle.std.proofs.Math.Option.{Option, none, some, IsSome, map}
-use Rattle.wire.specs.Bytes.{pick}
-use Rattle.wire.specs.Bytes.{is_some}
+use Rattle.wire.specs.Bytes.{pick, is_some}
 
 -- a choice by a test, both ways known
 pub by_pick : {X : Type 0} (P : X → Type 0) (t : Bool) {x y : X} → (t ≡ true → P x) → (t ≡ false → P y) → P (pick t x y)

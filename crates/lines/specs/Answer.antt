@@ -1,32 +1,27 @@
 -- A line and its whole answer.
-use Rattle.std.specs.Prelude.{Bool, true, false, List, ℕ, leb, length}
+use Rattle.std.specs.Prelude.{Bool, true, false, List, ℕ, leb, length, Ok, Err, Some, None}
+use Rattle.std.specs.declared.option.Option.{Option}
 use Rattle.wire.specs.Bytes.{pick, over}
-use Rattle.wire.specs.Rules.{first}
+use Rattle.refusals.specs.Rules.{number_of, first}
 use Rattle.gates.specs.declared.Of.TheVariants.{Image}
 use Rattle.gates.specs.Gates.{gate_rules}
 use Rattle.reads.specs.Reads.{list_in}
 use Rattle.parse.specs.declared.Word.{Word}
 use Rattle.parse.specs.declared.Word.TheVariants.{Put, Del, Set, Drop, Show}
 use Rattle.parse.specs.declared.Command.{Command}
-use Rattle.parse.specs.declared.Parsed.{Parsed}
-use Rattle.parse.specs.declared.Parsed.TheVariants.{Good, Bad}
-use Rattle.lines.specs.declared.Reply.{Reply}
-use Rattle.lines.specs.declared.Reply.TheVariants.{Fine, No}
-use Rattle.lines.specs.declared.Printed.{Printed}
-use Rattle.lines.specs.declared.Printed.TheVariants.{Bytes, Short}
 use Rattle.parse.specs.Grammar.{parsed}
 use Rattle.print.specs.Print.{list_lines, longest, ok_line, no_line, bad_line}
-use Rattle.lines.specs.Run.{reply_of, image_of, left_of}
+use Rattle.lines.specs.Run.{Reply, number_told, reply_of, image_of, left_of}
 
 -- an answer to an edit
 unfoldable pub reply_line : Reply → List ℕ
 unfolding ok_line no_line
-reply_line Fine = ok_line
-reply_line (No n) = no_line n
+reply_line (Ok x) = ok_line
+reply_line (Err f) = no_line (number_told f)
 
 -- the answer to `list`: the refusal of an image lent to a read, or the list
 unfoldable pub list_text : List ℕ → ℕ → List ℕ
-list_text l t = first no_line (gate_rules Image l) (list_lines t (list_in Image l t))
+list_text l t = first (λ r. no_line (number_of r)) (gate_rules Image l) (list_lines t (list_in Image l t))
 
 unfoldable pub is_show : Word → Bool
 is_show Put = false
@@ -50,28 +45,28 @@ unfolding is_show
 command_space l w c = pick (is_show c.word) w (left_of l w c)
 
 -- the same of a line
-unfoldable pub line_text : Parsed → List ℕ → List ℕ → List ℕ
+unfoldable pub line_text : Option Command → List ℕ → List ℕ → List ℕ
 unfolding command_text bad_line
-line_text (Good c) l w = command_text l w c
-line_text Bad l w = bad_line
+line_text (Some c) l w = command_text l w c
+line_text None l w = bad_line
 
-unfoldable pub line_image : Parsed → List ℕ → List ℕ → List ℕ
+unfoldable pub line_image : Option Command → List ℕ → List ℕ → List ℕ
 unfolding command_image
-line_image (Good c) l w = command_image l w c
-line_image Bad l w = l
+line_image (Some c) l w = command_image l w c
+line_image None l w = l
 
-unfoldable pub line_space : Parsed → List ℕ → List ℕ → List ℕ
+unfoldable pub line_space : Option Command → List ℕ → List ℕ → List ℕ
 unfolding command_space
-line_space (Good c) l w = command_space l w c
-line_space Bad l w = w
+line_space (Some c) l w = command_space l w c
+line_space None l w = w
 
 -- an output too short: shorter than the longest answer, 20 bytes and 25 for each of 989 records
 abbrev pub roomy : List ℕ → Bool
 roomy out = leb longest (length out)
 
-unfoldable pub printed_of : List ℕ → List ℕ → List ℕ → List ℕ → Printed
+unfoldable pub printed_of : List ℕ → List ℕ → List ℕ → List ℕ → Option ℕ
 unfolding line_text parsed
-printed_of l w line out = pick (roomy out) (Bytes (length (line_text (parsed line) l w))) Short
+printed_of l w line out = pick (roomy out) (Some (length (line_text (parsed line) l w))) None
 
 unfoldable pub out_of : List ℕ → List ℕ → List ℕ → List ℕ → List ℕ
 unfolding line_text parsed

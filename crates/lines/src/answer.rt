@@ -5,33 +5,21 @@ ghost use Rattle.parse.specs.Grammar.{parsed};
 ghost use Rattle.print.specs.Print.{longest};
 ghost use Rattle.lines.specs.Answer.{reply_line, list_text, is_show, command_text, command_image, command_space, line_text, line_image, line_space, printed_of, out_of, image_after, space_after};
 
+use crate::failure::Failure;
 use crate::run::run;
-use crate::{Printed, Reply};
 use gates::Of;
-use home::Answer;
-use parse::{Command, Parsed, Word, parse};
+use parse::{Command, Word, parse};
 use print::{LONGEST, put_bad, put_list, put_no, put_ok};
 
-fn is_list(word: Word) -> bool
-    ensures { result ≡ is_show word }
-{
-    match word {
-        Word::Put => false,
-        Word::Del => false,
-        Word::Set => false,
-        Word::Drop => false,
-        Word::Show => true,
-    }
-}
-
 // Prints what is replied to an edit.
-fn put_reply(out: &mut [u8], r: Reply) -> usize
+#[tactic(auto, unfolding(crate::specs::Answer::reply_line))]
+fn put_reply(out: &mut [u8], r: Result<(), Failure>) -> usize
     requires { longest ≤ length out.old }
     ensures { (out.new ≡ over out.old 0 (reply_line r)) × (result ≡ length (reply_line r)) × (result ≤ longest) }
 {
     match r {
-        Reply::Fine => put_ok(out),
-        Reply::No(n) => put_no(out, n),
+        Ok(()) => put_ok(out),
+        Err(f) => put_no(out, u8::from(f)),
     }
 }
 
@@ -41,11 +29,11 @@ fn put_listing(image: &[u8], tag: u32, out: &mut [u8]) -> usize
     ensures { (out.new ≡ over out.old 0 (list_text image.now tag)) × (result ≡ length (list_text image.now tag)) × (result ≤ longest) }
 {
     match reads::count(Of::Image, image, tag) {
-        Answer::Count(_) => {
+        Ok(_) => {
             let list = reads::show(Of::Image, image, tag);
             put_list(out, tag, list)
         }
-        Answer::Refused(n) => put_no(out, n),
+        Err(r) => put_no(out, u8::from(r)),
     }
 }
 
@@ -55,33 +43,33 @@ fn answer_command(image: &mut [u8], space: &mut [u8], c: Command, out: &mut [u8]
     ensures out_after { (out.new ≡ over out.old 0 (command_text image.old space.old c)) × (result ≡ length (command_text image.old space.old c)) × (result ≤ longest) }
     ensures image_after { (image.new ≡ command_image image.old space.old c) × (space.new ≡ command_space image.old space.old c) }
 {
-    let word = c.word;
-    if is_list(word) {
-        return put_listing(image, c.tag, out);
+    match c.word {
+        Word::Show => put_listing(image, c.tag, out),
+        _ => put_reply(out, run(image, space, c)),
     }
-    let r = run(image, space, c);
-    put_reply(out, r)
 }
 
 // Answers a line, where the output has room for the longest answer.
+#[tactic(auto, unfolding(crate::specs::Answer::line_text, crate::specs::Answer::line_image, crate::specs::Answer::line_space))]
 pub fn answer_line(image: &mut [u8], space: &mut [u8], line: &[u8], out: &mut [u8]) -> usize
     requires { longest ≤ length out.old }
     ensures out_after { (out.new ≡ over out.old 0 (line_text (parsed line.now) image.old space.old)) × (result ≡ length (line_text (parsed line.now) image.old space.old)) × (result ≤ longest) }
     ensures image_after { (image.new ≡ line_image (parsed line.now) image.old space.old) × (space.new ≡ line_space (parsed line.now) image.old space.old) }
 {
     match parse(line) {
-        Parsed::Good(c) => answer_command(image, space, c, out),
-        Parsed::Bad => put_bad(out),
+        Some(c) => answer_command(image, space, c, out),
+        None => put_bad(out),
     }
 }
 
-// Answers a line. Nothing changes where the output is too short.
-pub fn answer(image: &mut [u8], space: &mut [u8], line: &[u8], out: &mut [u8]) -> Printed
+// Answers a line, and tells how many bytes are printed. Nothing changes where the output is too short.
+#[tactic(auto, unfolding(crate::specs::Answer::printed_of, crate::specs::Answer::out_of, crate::specs::Answer::image_after, crate::specs::Answer::space_after))]
+pub fn answer(image: &mut [u8], space: &mut [u8], line: &[u8], out: &mut [u8]) -> Option<usize>
     ensures value { (result ≡ printed_of image.old space.old line.now out.old) × (out.new ≡ out_of image.old space.old line.now out.old) }
     ensures image_after { (image.new ≡ image_after image.old space.old line.now out.old) × (space.new ≡ space_after image.old space.old line.now out.old) }
 {
     if out.len() < LONGEST {
-        return Printed::Short;
+        return None;
     }
-    Printed::Bytes(answer_line(image, space, line, out))
+    Some(answer_line(image, space, line, out))
 }

@@ -1,20 +1,20 @@
 // Edits made and committed.
 ghost use Rattle.std.specs.Prelude.{◌≡◌};
-ghost use Rattle.wire.specs.Rules.{answered, left};
+ghost use Rattle.refusals.specs.Rules.{answered, left};
 ghost use Rattle.image_log.specs.Calls.{after, commit_plan};
 ghost use Rattle.home.specs.Sound.{sound};
-ghost use Rattle.lines.specs.Run.{edit_of, plenty, outcome_reply, plan_reply, unless_refused, reply_of, image_of, left_of};
+ghost use Rattle.lines.specs.Run.{edit_of, plenty, plan_reply, reply_of, image_of, left_of};
 
-use crate::Reply;
-use home::Answer;
-use image_log::Outcome;
-use index::Begun;
+use crate::failure::Failure;
+use image_log::Stored;
 use parse::{Command, Word};
 use records::Record;
+use refusals::Refusal;
 
 // Edits a workspace as the word says.
-fn edit(space: &mut [u8], word: Word, tag: u32, call: Record) -> Answer
-    ensures value { result ≡ answered Answer.Refused (edit_of word space.old tag call) }
+#[tactic(auto, unfolding(crate::specs::Run::edit_of, refusals::specs::Rules::first))]
+fn edit(space: &mut [u8], word: Word, tag: u32, call: Record) -> Result<usize, Refusal>
+    ensures value { result ≡ answered Err (edit_of word space.old tag call) }
     ensures space_after { space.new ≡ left (edit_of word space.old tag call) space.old }
 {
     match word {
@@ -22,45 +22,28 @@ fn edit(space: &mut [u8], word: Word, tag: u32, call: Record) -> Answer
         Word::Del => index::delete(space, tag, call),
         Word::Set => index::set_minutes(space, tag, call),
         Word::Drop => index::drop_tag(space, tag),
-        Word::Show => Answer::Count(0),
+        Word::Show => Ok(0),
     }
 }
 
-fn reply_of(o: Outcome) -> Reply
-    ensures { result ≡ outcome_reply o }
+// Commits an edited workspace.
+#[tactic(auto, unfolding(crate::specs::Run::outcome_reply))]
+fn keep(image: &mut [u8], space: &[u8]) -> Result<(), Failure>
+    ensures value { result ≡ plan_reply (commit_plan sound image.old space.now) }
+    ensures image_after { image.new ≡ after (commit_plan sound image.old space.now) plenty image.old }
 {
-    match o {
-        Outcome::Done(_) => Reply::Fine,
-        Outcome::Cut(_) => Reply::No(0),
-        Outcome::Refused(n) => Reply::No(n),
-    }
-}
-
-// Commits an edited workspace, unless the edit was refused.
-fn keep(image: &mut [u8], space: &[u8], a: Answer) -> Reply
-    ensures value { result ≡ plan_reply (unless_refused a (commit_plan sound image.old space.now)) }
-    ensures image_after { image.new ≡ after (unless_refused a (commit_plan sound image.old space.now)) plenty image.old }
-{
-    match a {
-        Answer::Count(_) => {
-            let o = index::commit(image, space, 4294967295);
-            reply_of(o)
-        }
-        Answer::Refused(n) => Reply::No(n),
+    match index::commit(image, space, 4294967295)? {
+        Stored::Done(_) => Ok(()),
+        Stored::Cut(_) => Err(Failure::Cut),
     }
 }
 
 // Makes the edit that a command names, and commits it.
-pub fn run(image: &mut [u8], space: &mut [u8], c: Command) -> Reply
+pub fn run(image: &mut [u8], space: &mut [u8], c: Command) -> Result<(), Failure>
     ensures value { result ≡ reply_of image.old space.old c }
     ensures image_after { (image.new ≡ image_of image.old space.old c) × (space.new ≡ left_of image.old space.old c) }
 {
-    match index::begin(image, space) {
-        Begun::Done => {
-            let word = c.word;
-            let a = edit(space, word, c.tag, c.call);
-            keep(image, space, a)
-        }
-        Begun::Refused(n) => Reply::No(n),
-    }
+    index::begin(image, space)?;
+    edit(space, c.word, c.tag, c.call)?;
+    keep(image, space)
 }

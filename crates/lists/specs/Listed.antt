@@ -7,15 +7,14 @@ use Rattle.layout.specs.Capacities.{class_of}
 use Rattle.home.specs.Layout.{change}
 use Rattle.home.specs.Bytes.{step_of, decode}
 use Rattle.home.specs.Sound.{sound, pages_of, list_of}
-use Rattle.home.specs.declared.lookup.TagBlock.TheVariants.{Known}
-use Rattle.home.specs.Lookup.{block_of}
+use Rattle.home.specs.Lookup.{known, block_of}
 use Rattle.layout.specs.Valid.{Proper}
 use Rattle.moves.specs.Stored.{settled}
 
 -- a sound home in which tag t has a block of n records at cell p
 pub record Listed (h : List ℕ) (t p n : ℕ) : Type 0 where
   pub sound : sound h ≡ true
-  pub block : block_of h t ≡ Known p n
+  pub block : block_of h t ≡ known p n
 
 -- a record that is not among them would have rank j there
 pub record Missing (h : List ℕ) (t p n j : ℕ) (r : Record) : Type 0 where

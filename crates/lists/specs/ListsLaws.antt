@@ -1,13 +1,14 @@
 -- A tag's list changed in its block is the block of the changed list.
 use Rattle.std.specs.Prelude.{◌≡◌, true, drop, set, get_or}
 use Rattle.std.proofs.Math.Path.{refl, sym, ap, ap₂}
-use Rattle.std.proofs.Common.{◌∙◌, add-zero, length-take, length-drop, take-append-drop, drop_of_length-le, drop-drop}
+use Rattle.std.proofs.Common.{◌∙◌, add-zero, take_at, drop_at, length-take, length-drop, take-append-drop, drop_of_length-le, drop-drop}
 use mathlib.Core.List.{List, [], ◌∷◌, ◌++◌, append_assoc, append-nil}
 use Prim.Native.Nat.{ℕ, suc, ◌+◌, ◌*◌, ◌-◌, ◌≤◌, ◌<◌}
 use native.Mathlib.Omega.{arith}
 use Rattle.std.proofs.Math.ListN.{length, take, replicate, length-append}
 use Rattle.std.proofs.lemmas.List.{length-replicate, replicate-append-replicate, set_split}
 use Rattle.std.proofs.Math.Seq.{split_at, length-take-le}
+use borrow.Rule.Slice.PartMut.{put_mid}
 use Rattle.wire.specs.Bytes.{part, over, bytes16, bytes32}
 use Rattle.wire.specs.BytesLaws.{over_is, over_whole, over-append, length_part, part_of, part-add, part-drop, over-behind, over-ahead, part-behind, over_seam, set-over}
 use Rattle.wire.specs.Cases.{by_lt, never}
@@ -65,6 +66,22 @@ amended_in p x q i m a b =
     set-over (p ++ (x ++ q)) (8 * i + 7) m ∙ over-behind p (x ++ q) (8 * i) 7 (m ∷ []) a
     ∙ ap (λ (y : List ℕ). p ++ y) (over-ahead x q 7 (m ∷ []) (omega arith) ∙ ap (λ (y : List ℕ). y ++ q) (sym (set-over x 7 m)))
 
+-- out with the bytes of l before its k-th, and with those from its (k + 8)-th on behind them
+abbrev copied : List ℕ → ℕ → List ℕ → List ℕ
+copied l k out =
+    let front : List ℕ = take k l ++ drop k out in
+    put_mid k (length front - k) front (part l (k + 8) (length l - (k + 8)))
+
+copied_in : (x m y : List ℕ) (k : ℕ) (out : List ℕ) → length x ≡ k → length m ≡ 8 → length out ≡ k + length y → copied (x ++ (m ++ y)) k out ≡ x ++ y
+copied_in x m y k out a b o =
+    let d : List ℕ = drop k out in
+    let n : length (x ++ (m ++ y)) - (k + 8) ≡ length y = omega (arith, length-append x (m ++ y), length-append m y) in
+    let t : part (x ++ (m ++ y)) (k + 8) (length y) ≡ y = part-behind x (m ++ y) k 8 (length y) a ∙ ap (λ (l : List ℕ). part (m ++ l) 8 (length y)) (sym (append-nil y)) ∙ part_join 8 (length y) m y [] b refl in
+    let e : drop (length (x ++ d) - k) d ≡ [] = drop_of_length-le d {i = length (x ++ d) - k} (omega (arith, length-append x d)) in
+    ap₂ (λ (l v : List ℕ). put_mid k (length (l ++ d) - k) (l ++ d) v) (take_at x (m ++ y) k a) (ap (part (x ++ (m ++ y)) (k + 8)) n ∙ t)
+    ∙ ap₂ (λ (l r : List ℕ). l ++ (y ++ drop (length (x ++ d) - k) r)) (take_at x d k a) (drop_at x d k a)
+    ∙ ap (λ (r : List ℕ). x ++ (y ++ r)) e ∙ ap (λ (r : List ℕ). x ++ r) (append-nil y)
+
 -- ---- the same of home's bytes, where n records lie at cell p
 
 module _ (h : List ℕ) (p n j : ℕ) where
@@ -94,6 +111,15 @@ module _ (h : List ℕ) (p n j : ℕ) where
       ap (λ (l : List ℕ). inserted l j r) (part_of h (list_at p) (8 * (n + 1)) ∙ ap (part h (list_at p)) e ∙ part-add h (list_at p) (8 * n) 8)
       ∙ grown_is r (part h (list_at p + 8 * n) 8) g (omega arith) (length_part h (list_at p + 8 * n) 8 (omega arith))
 
+  pub inserted_grown : (r : Record) (out : List ℕ) → j ≤ n → list_at p + 8 * n ≤ length h → length out ≡ 8 * (n + 1)
+      → inserted (take (list_at p + 8 * n - list_at p) (drop (list_at p) h) ++ drop (length (take (list_at p + 8 * n - list_at p) (drop (list_at p) h))) out) j r ≡ grown h p n j r
+  inserted_grown r out g i o =
+      let l : List ℕ = part h (list_at p) (8 * n) in
+      let m : length l ≡ 8 * n = length_part h (list_at p) (8 * n) i in
+      ap (λ (x : List ℕ). inserted (x ++ drop (length x) out) j r) (part_of h (list_at p) (8 * n))
+      ∙ grown_is r (drop (length l) out) g i (length-drop (length l) out ∙ omega arith)
+
+  -- the copy written over the run's first bytes
   pub inserted_copy : (r : Record) (out : List ℕ) → j ≤ n → list_at p + 8 * n ≤ length h → length out ≡ 8 * (n + 1)
       → inserted (over out 0 (take (list_at p + 8 * n - list_at p) (drop (list_at p) h))) j r ≡ grown h p n j r
   inserted_copy r out g i o =
@@ -102,18 +128,33 @@ module _ (h : List ℕ) (p n j : ℕ) where
       ap (λ (x : List ℕ). inserted x j r) (ap (over out 0) (part_of h (list_at p) (8 * n)) ∙ over_is out 0 l (omega arith))
       ∙ grown_is r (drop (0 + length l) out) g i (length-drop (0 + length l) out ∙ omega arith)
 
+  -- the bytes before a record, its own and those behind it
+  parted : j < n → take (list_at p + 8 * n - list_at p) (drop (list_at p) h) ≡ part h (list_at p) (8 * j) ++ (part h (list_at p + 8 * j) 8 ++ part h (list_at p + 8 * j + 8) (8 * (n - (j + 1))))
+  parted g =
+      let k : ℕ = 8 * (n - (j + 1)) in
+      let e : 8 * n ≡ 8 * j + (8 + k) = omega arith in
+      part_of h (list_at p) (8 * n) ∙ ap (part h (list_at p)) e ∙ part-add h (list_at p) (8 * j) (8 + k) ∙ ap (λ (l : List ℕ). part h (list_at p) (8 * j) ++ l) (part-add h (list_at p + 8 * j) 8 k)
+
   pub removed-lent : j < n → list_at p + 8 * n ≤ length h
       → removed (take (list_at p + 8 * n - list_at p) (drop (list_at p) h)) j ≡ shrunk h p n j ++ replicate 8 0
   unfolding shrunk
   removed-lent g i =
       let k : ℕ = 8 * (n - (j + 1)) in
-      let e : 8 * n ≡ 8 * j + (8 + k) = omega arith in
-      ap (λ (l : List ℕ). removed l j) (part_of h (list_at p) (8 * n) ∙ ap (part h (list_at p)) e ∙ part-add h (list_at p) (8 * j) (8 + k)
-      ∙ ap (λ (l : List ℕ). part h (list_at p) (8 * j) ++ l) (part-add h (list_at p + 8 * j) 8 k))
+      ap (λ (l : List ℕ). removed l j) (parted g)
       ∙ removed_in (part h (list_at p) (8 * j)) (part h (list_at p + 8 * j) 8) (part h (list_at p + 8 * j + 8) k) j
       (length_part h (list_at p) (8 * j) (omega arith)) (length_part h (list_at p + 8 * j) 8 (omega arith))
 
   -- both sides of a record copied
+  pub copied_shrunk : (out : List ℕ) → j < n → list_at p + 8 * n ≤ length h → length out ≡ 8 * (n - 1) → copied (take (list_at p + 8 * n - list_at p) (drop (list_at p) h)) (8 * j) out ≡ shrunk h p n j
+  unfolding shrunk
+  copied_shrunk out g i o =
+      let k : ℕ = 8 * (n - (j + 1)) in
+      let y : List ℕ = part h (list_at p + 8 * j + 8) k in
+      ap (λ (l : List ℕ). copied l (8 * j) out) (parted g)
+      ∙ copied_in (part h (list_at p) (8 * j)) (part h (list_at p + 8 * j) 8) y (8 * j) out
+      (length_part h (list_at p) (8 * j) (omega arith)) (length_part h (list_at p + 8 * j) 8 (omega arith)) (omega (arith, length_part h (list_at p + 8 * j + 8) k (omega arith)))
+
+  -- the second side written over the bytes behind the first
   pub copied_twice : (out : List ℕ) → j < n → list_at p + 8 * n ≤ length h → length out ≡ 8 * (n - 1)
       → over (over out 0 (take (list_at p + 8 * j - list_at p) (drop (list_at p) h))) (8 * j) (take (list_at p + 8 * n - (list_at p + 8 * j + 8)) (drop (list_at p + 8 * j + 8) h))
       ≡ shrunk h p n j

@@ -1,6 +1,6 @@
 -- One turn of the loops over two lists in bytes.
-use Rattle.std.specs.Prelude.{◌≡◌, Bool, true, false, List, [], ℕ, ◌+◌, ◌*◌, ◌/◌, ◌≤◌, ◌<◌, length}
-use Rattle.std.proofs.Common.{sym, ap, ◌∙◌, append-nil}
+use Rattle.std.specs.Prelude.{◌≡◌, Bool, true, false, List, [], ◌∷◌, ℕ, ◌+◌, ◌*◌, ◌/◌, ◌≤◌, ◌<◌, length, drop}
+use Rattle.std.proofs.Common.{sym, ap, ◌∙◌, append-nil, lt-ltb, le-ltb}
 use native.Mathlib.Omega.{arith}
 use Rattle.wire.specs.Bytes.{over}
 use Rattle.wire.specs.Cases.{by_lt}
@@ -8,14 +8,122 @@ use Rattle.wire.specs.BytesLaws.{over-nil, over-append}
 use Rattle.records.specs.declared.Record.{Record}
 use Rattle.records.specs.Records.{key, tally, bytes_of, encode, record_at, decode, rest}
 use Rattle.records.specs.Order.{tally-small}
-use Rattle.records.specs.Cells.{length-bytes_of, rest_more, rest_end, rest_all}
+use Rattle.records.specs.Cells.{length-bytes_of, length-records, rest_more, rest_end, rest_all, decode_more, decode_end}
 use Rattle.merges.specs.declared.Side.{Side}
 use Rattle.merges.specs.declared.Side.TheVariants.{First, Shared, Second}
 use Rattle.merges.specs.declared.Merge.{Merge}
 use Rattle.merges.specs.Merging.{side, keeps, keep, of_first, of_second, next, merge}
 use Rattle.merges.specs.MergingLaws.{merge-first_end, merge_second_end, merge_none, merge-first, merge_second, merge_shared, side-first_end, side_second_end, side-first, side_second, side_shared}
 
+-- what a merge has yet to give
+abbrev pub left : Merge → List ℕ → List ℕ → List Record
+left m a b = merge m (decode a) (decode b)
+
 -- ---- whose turn it is
+
+-- the lowest call of two lists: it is there, and its record, if kept, heads what is left to give
+pub record Lowest (a b : List ℕ) (w : Side) : Type 0 where
+  pub is : w ≡ side (decode a) (decode b)
+  pub first : 8 * of_first w ≤ length a
+  pub second : 8 * of_second w ≤ length b
+  pub on : 0 < of_first w + of_second w
+  pub rest : (m : Merge) → left m a b ≡ keep (keeps m w) (next w (record_at a 0) (record_at b 0)) (left m (drop (8 * of_first w) a) (drop (8 * of_second w) b))
+
+module _ (a b : List ℕ) where
+  pub lowest_alone : 8 ≤ length a → length b < 8 → Lowest a b First
+  unfolding of_first of_second next
+  lowest_alone g h = record {
+    is = rw (decode_more a g, decode_end b h) (sym (side-first_end _ _));
+    first = omega arith;
+    second = omega arith;
+    on = omega arith;
+    rest = λ m. rw (decode_more a g, decode_end b h) (merge-first_end m _ _);
+  }
+
+  pub lowest_over : length a < 8 → 8 ≤ length b → Lowest a b Second
+  unfolding of_first of_second next
+  lowest_over g h = record {
+    is = rw (decode_end a g, decode_more b h) (sym (side_second_end _));
+    first = omega arith;
+    second = omega arith;
+    on = omega arith;
+    rest = λ m. rw (decode_end a g, decode_more b h) (merge_second_end m _ _);
+  }
+
+  pub lowest_before : 8 ≤ length a → 8 ≤ length b → key (record_at a 0) < key (record_at b 0) → Lowest a b First
+  unfolding of_first of_second next
+  lowest_before g h q = record {
+    is = rw (decode_more a g, decode_more b h) (sym (side-first _ _ _ _ q));
+    first = omega arith;
+    second = omega arith;
+    on = omega arith;
+    rest = λ m. rw (decode_more a g, decode_more b h) (merge-first m _ _ _ _ q);
+  }
+
+  pub lowest_after : 8 ≤ length a → 8 ≤ length b → key (record_at b 0) < key (record_at a 0) → Lowest a b Second
+  unfolding of_first of_second next
+  lowest_after g h q = record {
+    is = rw (decode_more a g, decode_more b h) (sym (side_second _ _ _ _ q));
+    first = omega arith;
+    second = omega arith;
+    on = omega arith;
+    rest = λ m. rw (decode_more a g, decode_more b h) (merge_second m _ _ _ _ q);
+  }
+
+  pub lowest_same : 8 ≤ length a → 8 ≤ length b → key (record_at a 0) ≡ key (record_at b 0) → Lowest a b Shared
+  unfolding of_first of_second next
+  lowest_same g h q = record {
+    is = rw (decode_more a g, decode_more b h) (sym (side_shared _ _ _ _ q));
+    first = omega arith;
+    second = omega arith;
+    on = omega arith;
+    rest = λ m. rw (decode_more a g, decode_more b h) (merge_shared m _ _ _ _ q);
+  }
+
+  pub left_end : (m : Merge) → length a < 8 → length b < 8 → left m a b ≡ []
+  left_end m g h = rw (decode_end a g, decode_end b h) (merge_none m)
+
+keep-few : (b : Bool) (x : Record) (xs : List Record) → length (keep b x xs) ≤ length xs + 1
+keep-few true x xs = omega arith
+keep-few false x xs = omega arith
+
+records_few : (m : Merge) (xs ys : List Record) → length (merge m xs ys) ≤ length xs + length ys
+unfolding merge
+records_few m [] [] = omega arith
+records_few m [] (y ∷ ys) = omega (arith, keep-few (keeps m Second) y (merge m [] ys), records_few m [] ys)
+records_few m (x ∷ xs) [] = omega (arith, keep-few (keeps m First) x (merge m xs []), records_few m xs [])
+records_few m (x ∷ xs) (y ∷ ys) =
+    by_lt (key x) (key y)
+    (λ h. rw (lt-ltb (key x) (key y) h) (omega (arith, keep-few (keeps m First) x (merge m xs (y ∷ ys)), records_few m xs (y ∷ ys))))
+    (λ h. rw (le-ltb (key x) (key y) h) (by_lt (key y) (key x)
+    (λ q. rw (lt-ltb (key y) (key x) q) (omega (arith, keep-few (keeps m Second) y (merge m (x ∷ xs) ys), records_few m (x ∷ xs) ys)))
+    (λ q. rw (le-ltb (key y) (key x) q) (omega (arith, keep-few (keeps m Shared) x (merge m xs ys), records_few m xs ys)))))
+
+-- a merge has no more records than both lists
+pub merge_few : (m : Merge) (a b : List ℕ) → length (merge m (decode a) (decode b)) ≤ length a / 8 + length b / 8
+merge_few m a b = omega (arith, records_few m (decode a) (decode b), length-records a 0 (length a / 8), length-records b 0 (length b / 8))
+
+-- the lowest call taken out: where it stood, its record, and the lists then
+pub record Taken (a b : List ℕ) (w : Side) (r : Record) (c d : List ℕ) : Type 0 where
+  pub rest : (m : Merge) → left m a b ≡ keep (keeps m w) r (left m c d)
+  pub fewer : length c + length d < length a + length b
+
+-- ---- what is written and what is left to write are together the whole merge
+
+abbrev pub Completes : List ℕ → List ℕ → ℕ → List Record → List Record → Type 0
+Completes out s k xs whole = over s (8 * k) (encode xs) ≡ over out 0 (encode whole)
+
+pub completes_turn : (out s : List ℕ) (k : ℕ) (x : Record) (xs whole : List Record) → Completes out s k (x ∷ xs) whole → Completes out (over s (8 * k) (bytes_of x)) (k + 1) xs whole
+unfolding encode
+completes_turn out s k x xs whole g =
+    let e : 8 * (k + 1) ≡ 8 * k + length (bytes_of x) = omega (arith, length-bytes_of x) in
+    rw e (over-append s (8 * k) (bytes_of x) (encode xs)) ∙ g
+
+pub completes_end : (out s : List ℕ) (k : ℕ) (whole : List Record) → Completes out s k [] whole → s ≡ over out 0 (encode whole)
+unfolding encode
+completes_end out s k whole g = sym (over-nil s (8 * k)) ∙ g
+
+-- ---- whose turn it is, by places in both lists
 
 pub side-over : (a b : List ℕ) (i j : ℕ) → length a / 8 ≤ i → Second ≡ side (rest a i) (rest b j)
 side-over a b i j g = rw (rest_end a i g) (sym (side_second_end (rest b j)))
@@ -102,7 +210,7 @@ pub tally-one : (b : Bool) → b ≡ true → tally b ≡ 1
 unfolding tally
 tally-one b e = rw e
 
--- ---- what is written and what is left to write are together the whole merge
+-- ---- what is written and what is left, by places
 
 pub record Count (m : Merge) (a b : List ℕ) (i j k : ℕ) : Type 0 where
   pub first : i ≤ length a / 8

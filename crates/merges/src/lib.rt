@@ -1,140 +1,145 @@
 // Both, either and first-without-second of two ordered lists of records in bytes.
 #![tactic(auto)]
 
-ghost use Rattle.std.specs.Prelude.{◌≡◌, [], ◌+◌, ◌*◌, ◌/◌, ◌≤◌, length, ltb};
+ghost use Rattle.std.specs.Prelude.{◌≡◌, [], ◌∷◌, ◌*◌, ◌≤◌, ◌<◌, length, MatchOption};
 ghost use Rattle.wire.specs.Bytes.{over};
-ghost use Rattle.records.specs.Records.{record_at, decode, rest, tally, encode};
-ghost use Rattle.merges.specs.Merging.{side, of_first, of_second, keeps, keep, next, merge};
+ghost use Rattle.records.specs.Records.{record_at, decode, encode};
+ghost use Rattle.merges.specs.Merging.{of_first, of_second, keeps, next, merge};
+ghost use Rattle.merges.specs.LoopLaws.{Lowest, Taken, left};
 
 use records::Record;
+use std::cmp::Ordering;
 
 // Where the lowest call of two lists stands.
-#[derive(Clone, Copy)]
+#[derive(Clone, Copy, Debug, PartialEq, Eq)]
 pub enum Side {
     First,
     Shared,
     Second,
 }
 
+impl Side {
+    // How many records of the first list the call takes up.
+    fn of_first(self) -> usize
+        ensures { result ≡ of_first self }
+    {
+        match self {
+            Side::First | Side::Shared => 1,
+            Side::Second => 0,
+        }
+    }
+
+    // And how many of the second.
+    fn of_second(self) -> usize
+        ensures { result ≡ of_second self }
+    {
+        match self {
+            Side::Shared | Side::Second => 1,
+            Side::First => 0,
+        }
+    }
+}
+
 // What is made of two lists.
-#[derive(Clone, Copy)]
+#[derive(Clone, Copy, Debug, PartialEq, Eq)]
 pub enum Merge {
     Both,
     Either,
     Without,
 }
 
-// Where the lowest call stands of those from the i-th and the j-th record on.
-fn side_at(a: &[u8], i: usize, b: &[u8], j: usize) -> Side
-    ensures { result ≡ side (rest a.now i) (rest b.now j) }
-{
-    if a.len() / 8 <= i {
-        return Side::Second;
-    }
-    if b.len() / 8 <= j {
-        return Side::First;
-    }
-    let x = records::key_at(a, i);
-    let y = records::key_at(b, j);
-    if x < y {
-        return Side::First;
-    }
-    if y < x { Side::Second } else { Side::Shared }
-}
-
-fn of_first(w: Side) -> usize
-    ensures { result ≡ of_first w }
-{
-    match w {
-        Side::First => 1,
-        Side::Shared => 1,
-        Side::Second => 0,
+impl Merge {
+    // Whether a call is kept.
+    fn keeps(self, side: Side) -> bool
+        ensures { result ≡ keeps self side }
+    {
+        match self {
+            Merge::Both => side == Side::Shared,
+            Merge::Either => true,
+            Merge::Without => side == Side::First,
+        }
     }
 }
 
-fn of_second(w: Side) -> usize
-    ensures { result ≡ of_second w }
-{
-    match w {
-        Side::First => 0,
-        Side::Shared => 1,
-        Side::Second => 1,
-    }
+// Two lists, or what is left of them. Its methods are inlined, since a loop over calls takes twice the time.
+#[derive(Clone, Copy)]
+struct Lists<'a> {
+    first: &'a [u8],
+    second: &'a [u8],
 }
 
-// Whether a call is kept.
-fn kept(m: Merge, w: Side) -> bool
-    ensures { result ≡ keeps m w }
-{
-    match m {
-        Merge::Both => match w {
-            Side::First => false,
-            Side::Shared => true,
-            Side::Second => false,
-        },
-        Merge::Either => true,
-        Merge::Without => match w {
-            Side::First => true,
-            Side::Shared => false,
-            Side::Second => false,
-        },
+impl Lists<'_> {
+    // Where the lowest call stands, if either list has one.
+    #[inline(always)]
+    fn lowest(&self) -> Option<Side>
+        ensures { MatchOption result ((length self.now.first.now < 8) × (length self.now.second.now < 8)) (Lowest self.now.first.now self.now.second.now) }
+    {
+        let first_ended = self.first.len() < 8;
+        if self.second.len() < 8 {
+            return if first_ended { None } else { Some(Side::First) };
+        }
+        if first_ended {
+            return Some(Side::Second);
+        }
+        let x = records::key_at(self.first, 0);
+        let y = records::key_at(self.second, 0);
+        match x.cmp(&y) {
+            Ordering::Less => Some(Side::First),
+            Ordering::Equal => Some(Side::Shared),
+            Ordering::Greater => Some(Side::Second),
+        }
     }
-}
 
-// The record of a call: the first list's where both have it.
-fn next_at(a: &[u8], i: usize, b: &[u8], j: usize, w: Side) -> Record
-    requires { (i + of_first w ≤ length a.now / 8) × (j + of_second w ≤ length b.now / 8) }
-    ensures { result ≡ next w (record_at a.now (8 * i)) (record_at b.now (8 * j)) }
-{
-    match w {
-        Side::First => records::record_at(a, i),
-        Side::Shared => records::record_at(a, i),
-        Side::Second => records::record_at(b, j),
+    // The record of the lowest call: the first list's where both have it.
+    #[inline(always)]
+    fn record(&self, side: Side) -> Record
+        requires { (8 * of_first side ≤ length self.now.first.now) × (8 * of_second side ≤ length self.now.second.now) }
+        ensures { result ≡ next side (record_at self.now.first.now 0) (record_at self.now.second.now 0) }
+    {
+        match side {
+            Side::First => records::record_at(self.first, 0),
+            Side::Shared => records::record_at(self.first, 0),
+            Side::Second => records::record_at(self.second, 0),
+        }
     }
-}
 
-// Whether either list has a record from the i-th and the j-th on.
-fn left(a: &[u8], i: usize, b: &[u8], j: usize) -> bool
-    requires { (i ≤ length a.now / 8) × (j ≤ length b.now / 8) }
-    ensures { result ≡ ltb (i + j) (length a.now / 8 + length b.now / 8) }
-{
-    i + j < a.len() / 8 + b.len() / 8
-}
-
-// Writes the record of a call that is kept as the k-th, and answers how many are written then.
-fn emit(
-    m: Merge,
-    a: &[u8],
-    i: usize,
-    b: &[u8],
-    j: usize,
-    w: Side,
-    out: &mut [u8],
-    k: usize,
-) -> usize
-    requires { (i + of_first w ≤ length a.now / 8) × (j + of_second w ≤ length b.now / 8) × (8 * (k + tally (keeps m w)) ≤ length out.old) }
-    ensures value { result ≡ k + tally (keeps m w) }
-    ensures out_after { out.new ≡ over out.old (8 * k) (encode (keep (keeps m w) (next w (record_at a.now (8 * i)) (record_at b.now (8 * j))) [])) }
-{
-    if !kept(m, w) {
-        return k;
+    // Takes out the lowest call.
+    #[inline(always)]
+    fn next_call(&mut self) -> Option<(Side, Record)>
+        ensures { MatchOption result ((length self.old.first.now < 8) × (length self.old.second.now < 8)) (λ p. Taken self.old.first.now self.old.second.now p.0 p.1 self.new.first.now self.new.second.now) }
+    {
+        let side = self.lowest()?;
+        let r = self.record(side);
+        self.first = &self.first[8 * side.of_first()..];
+        self.second = &self.second[8 * side.of_second()..];
+        Some((side, r))
     }
-    records::store(out, 8 * k, next_at(a, i, b, j, w));
-    k + 1
+
+    // Takes out calls up to the next that a merge keeps.
+    #[inline(always)]
+    fn next(&mut self, m: Merge) -> Option<Record>
+        ensures { MatchOption result (left m self.old.first.now self.old.second.now ≡ []) (λ r. left m self.old.first.now self.old.second.now ≡ r ∷ left m self.new.first.now self.new.second.now) }
+    {
+        while let Some((side, r)) = self.next_call() {
+            if m.keeps(side) {
+                return Some(r);
+            }
+        }
+        None
+    }
 }
 
 // How many records a merge of two lists has.
 pub fn merge_count(m: Merge, a: &[u8], b: &[u8]) -> usize
     ensures { result ≡ length (merge m (decode a.now) (decode b.now)) }
 {
-    let mut i = 0;
-    let mut j = 0;
+    let mut lists = Lists {
+        first: a,
+        second: b,
+    };
     let mut k = 0;
-    while left(a, i, b, j) {
-        let w = side_at(a, i, b, j);
-        k += records::one_if(kept(m, w));
-        i += of_first(w);
-        j += of_second(w);
+    while let Some(_) = lists.next(m) {
+        k += 1;
     }
     k
 }
@@ -145,14 +150,14 @@ pub fn merge_into(m: Merge, a: &[u8], b: &[u8], out: &mut [u8]) -> usize
     ensures value { result ≡ length (merge m (decode a.now) (decode b.now)) }
     ensures out_after { out.new ≡ over out.old 0 (encode (merge m (decode a.now) (decode b.now))) }
 {
-    let mut i = 0;
-    let mut j = 0;
+    let mut lists = Lists {
+        first: a,
+        second: b,
+    };
     let mut k = 0;
-    while left(a, i, b, j) {
-        let w = side_at(a, i, b, j);
-        k = emit(m, a, i, b, j, w, out, k);
-        i += of_first(w);
-        j += of_second(w);
+    while let Some(r) = lists.next(m) {
+        records::store(out, 8 * k, r);
+        k += 1;
     }
     k
 }

@@ -4,6 +4,7 @@ use Rattle.std.proofs.Math.Path.{refl, sym, ap, subst}
 use Rattle.std.proofs.Common.{◌∙◌, arith, mul-le-mul_right, add-one}
 use mathlib.Core.List.{List, ◌∷◌, ◌++◌}
 use Rattle.wire.specs.Bytes.{over, bytes16}
+use Rattle.wire.specs.Cases.{by_lt}
 use Rattle.layout.specs.Capacities.{cells}
 use Rattle.layout.specs.Zones.{Zone, empty, from, based}
 use Rattle.home.specs.Layout.{Fit, Loose}
@@ -198,3 +199,10 @@ module _ (step R : ℕ) (zs : List Zone) (h : List ℕ) (c to p q i n k : ℕ) (
   up_done e g =
       let j : i ≡ 0 = omega arith in
       entry_set (s.bytes ∙ ap (half_bytes step R zs c s.here p q) j ∙ half-none step R zs c s.here p q ∙ ap (λ (d : ℕ). at_spots step R (zone_entries zs) (spots step 0 (starting_at step R zs c s.here d))) e)
+
+-- its cells stay small, whichever way it goes
+pub going_small : (step : ℕ) (h : List ℕ) (c f to n k : ℕ) → Going step h c f to n → k ≡ cells step c → (i : ℕ) → i ≤ n → (i * k ≤ 8192) × (f + i * k ≤ 8192) × (to + i * k ≤ 8192)
+going_small step h c f to n k o size i g =
+    by_lt to f
+    (λ b. let s = sliding_small _ _ _ _ _ _ _ _ _ _ _ (down-start step h c f to n k o size (omega arith)) i g in (s.0, s.2, s.1))
+    (λ b. sliding_small _ _ _ _ _ _ _ _ _ _ _ (up_start step h c f to n k o size b) i g)

@@ -32,10 +32,8 @@ pub fn close_up(home: &mut [u8], step: usize, c: usize, e: usize)
     requires { Open step (pages_of home.old) home.old (decode home.old) c e }
     ensures { home.new ≡ closed_bytes step (pages_of home.old) (decode home.old) c e }
 {
-    let mut d = c;
     let mut end = e;
-    while d < 30 {
+    for d in c..30 {
         end = close_zone(home, step, d, end);
-        d += 1;
     }
 }

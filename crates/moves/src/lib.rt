@@ -4,7 +4,7 @@
 pub mod close;
 pub mod slide;
 
-ghost use Rattle.std.specs.Prelude.{◌≡◌, ◌+◌, ◌*◌, ◌≤◌, ◌<◌, min, length};
+ghost use Rattle.std.specs.Prelude.{◌≡◌, ◌+◌, ◌*◌, ◌≤◌, ◌<◌, length};
 ghost use Rattle.wire.specs.Bytes.{get16};
 ghost use Rattle.layout.specs.Capacities.{cells as size_of};
 ghost use Rattle.home.specs.Bytes.{cell_at};
@@ -15,12 +15,6 @@ use home::AREA;
 use home::lookup::index_of;
 use layout::classes::cells;
 
-fn least(a: usize, b: usize) -> usize
-    ensures { result ≡ min a b }
-{
-    if a < b { a } else { b }
-}
-
 // Carries n bytes to another place, which may overlap theirs. The bytes that they left become zero.
 fn carry(s: &mut [u8], from: usize, to: usize, n: usize)
     requires { (from + n ≤ length s.old) × (to + n ≤ length s.old) }
@@ -28,10 +22,10 @@ fn carry(s: &mut [u8], from: usize, to: usize, n: usize)
 {
     wire::copy_within(s, from, to, n);
     if from < to {
-        let k = least(n, to - from);
+        let k = n.min(to - from);
         wire::fill(s, from, k, 0);
     } else {
-        let k = least(n, from - to);
+        let k = n.min(from - to);
         wire::fill(s, from + n - k, k, 0);
     }
 }

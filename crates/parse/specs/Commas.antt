@@ -1,12 +1,12 @@
 -- A line as it is read: up to each comma, and each field as a number.
-use Rattle.std.specs.Prelude.{List, ℕ, ◌+◌, ◌-◌, length}
+use Rattle.std.specs.Prelude.{List, Option, ℕ, ◌+◌, ◌-◌, length}
 use Rattle.wire.specs.Bytes.{part}
-use Rattle.parse.specs.declared.Parsed.{Parsed}
+use Rattle.parse.specs.declared.Command.{Command}
 use Rattle.text.specs.Text.{number_of}
 use Rattle.parse.specs.Grammar.{word_of, built}
 
 -- the command of a line with commas at these offsets
-unfoldable pub at_commas : List ℕ → ℕ → ℕ → ℕ → ℕ → ℕ → Parsed
+unfoldable pub at_commas : List ℕ → ℕ → ℕ → ℕ → ℕ → ℕ → Option Command
 at_commas l a b c d e =
     built (word_of (part l 0 a))
     (number_of 4294967295 (part l (a + 1) (b - (a + 1))))

@@ -1,10 +1,9 @@
 -- Lines worked out by hand.
-use Rattle.std.specs.Prelude.{◌≡◌, refl, Bool, true, ◌&&◌, List, [], ◌∷◌, ℕ}
+use Rattle.std.specs.Prelude.{◌≡◌, refl, Bool, true, ◌&&◌, List, [], ◌∷◌, Option, Some, None, ℕ}
 use Rattle.wire.specs.Bytes.{equal}
 use Rattle.parse.specs.declared.Word.{Word}
 use Rattle.parse.specs.declared.Word.TheVariants.{Put, Del, Set, Drop, Show}
-use Rattle.parse.specs.declared.Parsed.{Parsed}
-use Rattle.parse.specs.declared.Parsed.TheVariants.{Good, Bad}
+use Rattle.parse.specs.declared.Command.{Command}
 use Rattle.text.specs.Text.{fields, is_digit, digits_only, value_from, leads, number_of}
 use Rattle.parse.specs.Grammar.{word_of, built, command_of, parsed}
 
@@ -16,10 +15,10 @@ number_of_word Set = 3
 number_of_word Drop = 4
 number_of_word Show = 5
 
-numbers : Parsed → List ℕ
+numbers : Option Command → List ℕ
 unfolding number_of_word
-numbers (Good c) = number_of_word c.word ∷ c.tag ∷ c.call.level ∷ c.call.second ∷ c.call.phone ∷ c.call.minutes ∷ []
-numbers Bad = []
+numbers (Some c) = number_of_word c.word ∷ c.tag ∷ c.call.level ∷ c.call.second ∷ c.call.phone ∷ c.call.minutes ∷ []
+numbers None = []
 
 record Row : Type 0 where
   line : List ℕ

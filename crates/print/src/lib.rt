@@ -67,10 +67,8 @@ pub fn put_list(out: &mut [u8], tag: u32, list: &[u8]) -> usize
 {
     let n = list.len() / 8;
     let mut at = put_head(out, tag, n as u32);
-    let mut i = 0;
-    while i < n {
+    for i in 0..n {
         at = put_record(out, at, records::record_at(list, i));
-        i += 1;
     }
     at
 }

@@ -1,20 +1,19 @@
 -- Both, either and first-without-second of two lists.
-use Rattle.std.specs.Prelude.{ℕ, ◌*◌, List, [], ◌∷◌, length, ltb}
+use Rattle.std.specs.Prelude.{ℕ, ◌*◌, List, [], ◌∷◌, length, ltb, Ok}
 use Rattle.wire.specs.Bytes.{over}
-use Rattle.wire.specs.Rules.{rule, Ruled, behind}
+use Rattle.refusals.specs.declared.Refusal.TheVariants.{OutputShort}
+use Rattle.refusals.specs.Rules.{Answer, rule, Ruled, behind}
 use Rattle.records.specs.declared.Record.{Record}
 use Rattle.merges.specs.declared.Merge.{Merge}
 use Rattle.records.specs.Records.{encode}
 use Rattle.merges.specs.Merging.{merge}
-use Rattle.home.specs.declared.Answer.{Answer}
-use Rattle.home.specs.declared.Answer.TheVariants.{Count}
 use Rattle.gates.specs.declared.Of.{Of}
 use Rattle.gates.specs.Gates.{gate_rules}
 use Rattle.reads.specs.Reads.{list_in}
 
 -- "15: output shorter than the records to write"; "Answer: the number of records. Bytes beyond them stay."
 abbrev pub written : List Record → List ℕ → Ruled Answer
-written rs out = record { rules = rule 15 (ltb (length out) (8 * length rs)) ∷ []; answer = Count (length rs); bytes = over out 0 (encode rs) }
+written rs out = record { rules = rule OutputShort (ltb (length out) (8 * length rs)) ∷ []; answer = Ok (length rs); bytes = over out 0 (encode rs) }
 
 -- of two tags' lists in what is lent
 unfoldable pub merge_in : Merge → Of → List ℕ → ℕ → ℕ → List ℕ → Ruled Answer

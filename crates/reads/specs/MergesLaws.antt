@@ -1,19 +1,19 @@
 -- The answers of a merge.
-use Rattle.std.specs.Prelude.{◌≡◌, true, ℕ, ◌*◌, ◌≤◌, ◌<◌}
+use Rattle.std.specs.Prelude.{◌≡◌, true, ℕ, ◌*◌, ◌≤◌, ◌<◌, Ok, Err}
 use Rattle.std.proofs.Common.{ap, ap₂, ◌∙◌, le-ltb, lt-ltb}
 use mathlib.Core.List.{List, []}
 use Rattle.std.proofs.Math.ListN.{length}
 use Rattle.std.proofs.Math.Option.{none, some}
 use Rattle.wire.specs.Bytes.{over}
-use Rattle.wire.specs.Rules.{first, refusal, answered, left}
-use Rattle.wire.specs.RulesLaws.{refused_here, passed_one, is_refused, is_done, gate_refuses, gate_opens}
+use Rattle.refusals.specs.declared.Refusal.{Refusal}
+use Rattle.refusals.specs.declared.Refusal.TheVariants.{OutputShort}
+use Rattle.refusals.specs.Rules.{Answer, first, refusal, answered, left}
+use Rattle.refusals.specs.RulesLaws.{refused_here, passed_one, is_refused, is_done, gate_refuses, gate_opens}
 use Rattle.records.specs.declared.Record.{Record}
 use Rattle.merges.specs.declared.Merge.{Merge}
 use Rattle.records.specs.Records.{encode, decode}
 use Rattle.merges.specs.Merging.{merge}
 use Rattle.home.specs.Sound.{sound, list_of}
-use Rattle.home.specs.declared.Answer.{Answer}
-use Rattle.home.specs.declared.Answer.TheVariants.{Count, Refused}
 use Rattle.gates.specs.declared.Of.{Of}
 use Rattle.gates.specs.Gates.{gate_rules, home_in}
 use Rattle.gates.specs.GatesLaws.{home_fine}
@@ -27,25 +27,25 @@ pub merged_is : (m : Merge) (h : List ℕ) (t u : ℕ) (xs ys : List ℕ) → so
 merged_is m h t u xs ys e f g = ap₂ (merge m) (list_reads h t xs e f) (list_reads h u ys e g)
 
 module _ (rs : List Record) (out : List ℕ) where
-  pub written-not : length out < 8 * length rs → (Refused 15 ≡ answered Refused (written rs out)) × (out ≡ left (written rs out) out)
-  written-not g = is_refused Refused (written rs out) out 15 (refused_here 15 _ [] (lt-ltb (length out) (8 * length rs) g))
+  pub written-not : length out < 8 * length rs → (Err OutputShort ≡ answered Err (written rs out)) × (out ≡ left (written rs out) out)
+  written-not g = is_refused Err (written rs out) out OutputShort (refused_here OutputShort _ [] (lt-ltb (length out) (8 * length rs) g))
 
-  pub written_all : (n : ℕ) (out' : List ℕ) → 8 * length rs ≤ length out → n ≡ length rs → out' ≡ over out 0 (encode rs) → (Count n ≡ answered Refused (written rs out)) × (out' ≡ left (written rs out) out)
+  pub written_all : (n : ℕ) (out' : List ℕ) → 8 * length rs ≤ length out → n ≡ length rs → out' ≡ over out 0 (encode rs) → (Ok n ≡ answered Err (written rs out)) × (out' ≡ left (written rs out) out)
   unfolding first
   written_all n out' g e f =
-      let d = is_done Refused (written rs out) out (passed_one 15 _ [] (le-ltb (length out) (8 * length rs) g)) in
-      (ap Count e ∙ d.0, f ∙ d.1)
+      let d = is_done Err (written rs out) out (passed_one OutputShort _ [] (le-ltb (length out) (8 * length rs) g)) in
+      (ap Ok e ∙ d.0, f ∙ d.1)
 
 -- behind the gate
 pub merged_open : (m : Merge) (of : Of) (bs : List ℕ) (t u : ℕ) (out : List ℕ) → refusal (gate_rules of bs) ≡ none → (h xs ys : List ℕ) → h ≡ home_in of bs → xs ≡ encode (list_of h t) → ys ≡ encode (list_of h u) → (a : Answer) (out' : List ℕ)
-    → (a ≡ answered Refused (written (merge m (decode xs) (decode ys)) out)) × (out' ≡ left (written (merge m (decode xs) (decode ys)) out) out)
-    → (a ≡ answered Refused (merge_in m of bs t u out)) × (out' ≡ left (merge_in m of bs t u out) out)
+    → (a ≡ answered Err (written (merge m (decode xs) (decode ys)) out)) × (out' ≡ left (written (merge m (decode xs) (decode ys)) out) out)
+    → (a ≡ answered Err (merge_in m of bs t u out)) × (out' ≡ left (merge_in m of bs t u out) out)
 unfolding merge_in
 merged_open m of bs t u out p h xs ys same ex ey a out' d =
     let fine : sound h ≡ true = ap sound same ∙ home_fine of bs p in
     let q : merge m (decode xs) (decode ys) ≡ merge m (list_in of bs t) (list_in of bs u) = merged_is m h t u xs ys fine ex ey ∙ ap (λ (x : List ℕ). merge m (list_of x t) (list_of x u)) same in
-    gate_opens Refused (written (merge m (list_in of bs t) (list_in of bs u)) out) out (gate_rules of bs) a out' p (rw (← q) d)
+    gate_opens Err (written (merge m (list_in of bs t) (list_in of bs u)) out) out (gate_rules of bs) a out' p (rw (← q) d)
 
-pub merged-refused : (m : Merge) (of : Of) (bs : List ℕ) (t u : ℕ) (out : List ℕ) (n : ℕ) → refusal (gate_rules of bs) ≡ some n → (Refused n ≡ answered Refused (merge_in m of bs t u out)) × (out ≡ left (merge_in m of bs t u out) out)
+pub merged-refused : (m : Merge) (of : Of) (bs : List ℕ) (t u : ℕ) (out : List ℕ) (r : Refusal) → refusal (gate_rules of bs) ≡ some r → (Err r ≡ answered Err (merge_in m of bs t u out)) × (out ≡ left (merge_in m of bs t u out) out)
 unfolding merge_in
-merged-refused m of bs t u out n e = gate_refuses Refused (written (merge m (list_in of bs t) (list_in of bs u)) out) out (gate_rules of bs) n e
+merged-refused m of bs t u out r e = gate_refuses Err (written (merge m (list_in of bs t) (list_in of bs u)) out) out (gate_rules of bs) r e

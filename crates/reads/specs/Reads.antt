@@ -1,10 +1,8 @@
 -- The reads of one list, of an image or of a workspace.
-use Rattle.std.specs.Prelude.{ℕ, ◌+◌, List, [], length}
-use Rattle.wire.specs.Rules.{first}
+use Rattle.std.specs.Prelude.{ℕ, ◌+◌, List, [], length, Ok, Err}
+use Rattle.refusals.specs.Rules.{Answer, first}
 use Rattle.records.specs.declared.Record.{Record}
 use Rattle.records.specs.Records.{below, encode}
-use Rattle.home.specs.declared.Answer.{Answer}
-use Rattle.home.specs.declared.Answer.TheVariants.{Count, Refused}
 use Rattle.home.specs.Lookup.{offset_of}
 use Rattle.home.specs.Sound.{list_of}
 use Rattle.gates.specs.declared.Of.{Of}
@@ -16,11 +14,11 @@ list_in of bs t = list_of (home_in of bs) t
 
 -- "Count a list (an unknown tag has 0)"
 unfoldable pub count_in : Of → List ℕ → ℕ → Answer
-count_in of bs t = first Refused (gate_rules of bs) (Count (length (list_in of bs t)))
+count_in of bs t = first Err (gate_rules of bs) (Ok (length (list_in of bs t)))
 
 -- "of a tag and a primary part, listed or not, the number of the tag's records before it, 0 for an unknown tag": by the key of that part
 unfoldable pub rank_in : Of → List ℕ → ℕ → ℕ → Answer
-rank_in of bs t k = first Refused (gate_rules of bs) (Count (below k (list_in of bs t)))
+rank_in of bs t k = first Err (gate_rules of bs) (Ok (below k (list_in of bs t)))
 
 -- "and show it: the part of the lent bytes that holds its records, empty for an unknown tag and on refusal"
 unfoldable pub show_in : Of → List ℕ → ℕ → List ℕ

@@ -1,16 +1,16 @@
 -- A tag's list read from its bytes, and the answers of a read by the gate.
-use Rattle.std.specs.Prelude.{◌≡◌, true, ℕ, ◌+◌, ◌*◌, List, [], length}
+use Rattle.std.specs.Prelude.{◌≡◌, true, ℕ, ◌+◌, ◌*◌, List, [], length, Ok, Err}
 use Rattle.std.proofs.Common.{sym, ap, ◌∙◌, arith}
 use Rattle.std.proofs.Math.Option.{none, some}
-use Rattle.wire.specs.Rules.{refusal}
-use Rattle.wire.specs.RulesLaws.{first-refused, first_passed}
+use Rattle.refusals.specs.declared.Refusal.{Refusal}
+use Rattle.refusals.specs.Rules.{refusal}
+use Rattle.refusals.specs.RulesLaws.{first-refused, first_passed}
 use Rattle.records.specs.Records.{rising, below, encode, decode}
 use Rattle.records.specs.Edits.{decode-encode}
 use Rattle.layout.specs.Capacities.{cells, class_of}
 use Rattle.layout.specs.CapacitiesLaws.{rising as rises}
 use Rattle.layout.specs.Valid.{Proper}
 use Rattle.layout.proofs.EditsLaws.{valid-listed}
-use Rattle.home.specs.declared.Answer.TheVariants.{Count, Refused}
 use Rattle.home.specs.Bytes.{step_of, decode as zones_in}
 use Rattle.home.specs.HomeLaws.{all_mem}
 use Rattle.home.specs.Lookup.{offset_of}
@@ -38,13 +38,13 @@ list_rises h t bs e f = ap rising (list_reads h t bs e f) ∙ (sound-listed h t 
 
 module _ (of : Of) (bs : List ℕ) (t : ℕ) where
   module _ (passed : refusal (gate_rules of bs) ≡ none) where
-    pub count_open : count_in of bs t ≡ Count (length (list_in of bs t))
+    pub count_open : count_in of bs t ≡ Ok (length (list_in of bs t))
     unfolding count_in
-    count_open = first_passed Refused (gate_rules of bs) (Count (length (list_in of bs t))) passed
+    count_open = first_passed Err (gate_rules of bs) (Ok (length (list_in of bs t))) passed
 
-    pub rank_open : (k : ℕ) → rank_in of bs t k ≡ Count (below k (list_in of bs t))
+    pub rank_open : (k : ℕ) → rank_in of bs t k ≡ Ok (below k (list_in of bs t))
     unfolding rank_in
-    rank_open k = first_passed Refused (gate_rules of bs) (Count (below k (list_in of bs t))) passed
+    rank_open k = first_passed Err (gate_rules of bs) (Ok (below k (list_in of bs t))) passed
 
     pub show_open : show_in of bs t ≡ encode (list_in of bs t)
     unfolding show_in
@@ -54,14 +54,14 @@ module _ (of : Of) (bs : List ℕ) (t : ℕ) where
     unfolding show_from
     show_from_lem = first_passed (λ n. 0) (gate_rules of bs) (home_from of bs + offset_of (home_in of bs) t) passed
 
-  module _ (r : ℕ) (no : refusal (gate_rules of bs) ≡ some r) where
-    pub count-refused : count_in of bs t ≡ Refused r
+  module _ (r : Refusal) (no : refusal (gate_rules of bs) ≡ some r) where
+    pub count-refused : count_in of bs t ≡ Err r
     unfolding count_in
-    count-refused = first-refused Refused (gate_rules of bs) r (Count (length (list_in of bs t))) no
+    count-refused = first-refused Err (gate_rules of bs) r (Ok (length (list_in of bs t))) no
 
-    pub rank-refused : (k : ℕ) → rank_in of bs t k ≡ Refused r
+    pub rank-refused : (k : ℕ) → rank_in of bs t k ≡ Err r
     unfolding rank_in
-    rank-refused k = first-refused Refused (gate_rules of bs) r (Count (below k (list_in of bs t))) no
+    rank-refused k = first-refused Err (gate_rules of bs) r (Ok (below k (list_in of bs t))) no
 
     pub show_refused : show_in of bs t ≡ []
     unfolding show_in
@@ -73,12 +73,12 @@ module _ (of : Of) (bs : List ℕ) (t : ℕ) where
 
 -- of home h as it is handed out, which begins at q where the lent bytes begin at o
 module _ (of : Of) (bs : List ℕ) (t : ℕ) (passed : refusal (gate_rules of bs) ≡ none) (h : List ℕ) (same : h ≡ home_in of bs) where
-  pub counted_is : (n : ℕ) → n ≡ length (list_of h t) → Count n ≡ count_in of bs t
-  counted_is n e = ap Count (e ∙ ap (λ (x : List ℕ). length (list_of x t)) same) ∙ sym (count_open of bs t passed)
+  pub counted_is : (n : ℕ) → n ≡ length (list_of h t) → Ok n ≡ count_in of bs t
+  counted_is n e = ap Ok (e ∙ ap (λ (x : List ℕ). length (list_of x t)) same) ∙ sym (count_open of bs t passed)
 
-  pub ranked_is : (k n : ℕ) (xs : List ℕ) → xs ≡ encode (list_of h t) → n ≡ below k (decode xs) → Count n ≡ rank_in of bs t k
+  pub ranked_is : (k n : ℕ) (xs : List ℕ) → xs ≡ encode (list_of h t) → n ≡ below k (decode xs) → Ok n ≡ rank_in of bs t k
   ranked_is k n xs f e =
-      ap Count (e ∙ ap (below k) (list_reads h t xs (ap sound same ∙ home_fine of bs passed) f) ∙ ap (λ (x : List ℕ). below k (list_of x t)) same)
+      ap Ok (e ∙ ap (below k) (list_reads h t xs (ap sound same ∙ home_fine of bs passed) f) ∙ ap (λ (x : List ℕ). below k (list_of x t)) same)
       ∙ sym (rank_open of bs t passed k)
 
   pub shown_is : (xs : List ℕ) (r q o : ℕ) → q ≡ o + home_from of bs → xs ≡ encode (list_of h t) → r ≡ q + offset_of h t → (xs ≡ show_in of bs t) × (r ≡ o + show_from of bs t)

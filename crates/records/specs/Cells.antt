@@ -1,10 +1,13 @@
 -- Laws of records in bytes.
 use Rattle.std.specs.Prelude.{◌≡◌, refl, List, [], ◌∷◌, ◌++◌, ℕ, zero, suc, ◌+◌, ◌-◌, ◌*◌, ◌/◌, ◌≤◌, ◌<◌, length, take, drop, set, get_or}
-use Rattle.std.proofs.Common.{sym, ap, arith, add-one}
+use Rattle.std.proofs.Common.{sym, ap, ◌∙◌, arith, add-one, length-drop}
+use Rattle.std.specs.Int.{w64, from_be_bytes}
+use Rattle.std.specs.Simd.{first_chunks}
+use Rattle.std.proofs.lemmas.List.{get_or-take, get_or-drop}
 use Rattle.wire.specs.Bytes.{over, get16, get32, bytes16, bytes32}
 use Rattle.wire.specs.BytesLaws.{over-cons, over_snoc, over-append}
 use Rattle.records.specs.declared.Record.{Record}
-use Rattle.records.specs.Records.{key, record_at, records, rest, bytes_of}
+use Rattle.records.specs.Records.{key, record_at, records, decode, rest, bytes_of}
 
 -- ---- one record
 
@@ -28,6 +31,16 @@ key_read l at g =
         ≡ a * 281474976710656 + (b * 16777216 + c * 65536 + d * 256 + e) * 65536 + (f * 256 + g)
     sums a b c d e f g h q = omega arith
 
+-- and from the number of its 8 bytes
+pub key_whole : (l : List ℕ) → get_or l 7 0 < 256 → from_be_bytes w64 l / 256 ≡ key (record_at l 0)
+unfolding key record_at get32 get16
+key_whole l g = sums (get_or l 0 0) (get_or l 1 0) (get_or l 2 0) (get_or l 3 0) (get_or l 4 0) (get_or l 5 0) (get_or l 6 0) (get_or l 7 0) g
+  where
+    sums : (a b c d e f g h : ℕ) → h < 256
+        → (a * 72057594037927936 + b * 281474976710656 + c * 1099511627776 + d * 4294967296 + e * 16777216 + f * 65536 + g * 256 + h) / 256
+        ≡ a * 281474976710656 + (b * 16777216 + c * 65536 + d * 256 + e) * 65536 + (f * 256 + g)
+    sums a b c d e f g h q = omega arith
+
 -- a record depends on its 8 bytes alone
 pub record_same : (l l' : List ℕ) (at at' : ℕ) → ((i : ℕ) → i < 8 → get_or l' (at' + i) 0 ≡ get_or l (at + i) 0) → record_at l' at' ≡ record_at l at
 unfolding record_at get32 get16
@@ -42,6 +55,32 @@ record_same l l' at at' f =
     let b6 : get_or l' (at' + 5 + 1) 0 ≡ get_or l (at + 5 + 1) 0 = b (at + 5 + 1) (at' + 5 + 1) 6 (omega arith) (omega arith) (omega arith) in
     let b7 : get_or l' (at' + 7) 0 ≡ get_or l (at + 7) 0 = f 7 (omega arith) in
     rw (b0, b1, b2, b3, b4, b5, b6, b7)
+
+chunk-at : (l : List ℕ) (n i j : ℕ) (d : List ℕ) → i < n → j < 8 → get_or (get_or (first_chunks 8 n l) i d) j 0 ≡ get_or l (8 * i + j) 0
+chunk-at l zero i j d g h = absurd (omega arith)
+chunk-at l (suc n) zero j d g h = let e : 8 * 0 + j ≡ j = omega arith in rw e (get_or-take 8 l j 0 h)
+chunk-at l (suc n) (suc i) j d g h =
+    let e : 8 * suc i + j ≡ 8 + (8 * i + j) = omega arith in
+    rw e (chunk-at (drop 8 l) n i j d (omega arith) h ∙ get_or-drop 8 l (8 * i + j) 0)
+
+-- the 8 bytes of each record of a run
+pub record CellsOf (l : List ℕ) (cells : List (List ℕ)) : Type 0 where
+  pub len : length cells ≡ length l / 8
+  pub each : (i : ℕ) (d : List ℕ) → i < length l / 8 → record_at (get_or cells i d) 0 ≡ record_at l (8 * i)
+
+pub cells_of : (l : List ℕ) (cells : List (List ℕ)) → cells ≡ first_chunks 8 (length l / 8) l → length cells ≡ length l / 8 → CellsOf l cells
+cells_of l cells e g = record {
+  len = g;
+  each = λ i d h. rw e (record_same l (get_or (first_chunks 8 (length l / 8) l) i d) (8 * i) 0
+      (λ j k. let o : 0 + j ≡ j = omega arith in rw o (chunk-at l (length l / 8) i j d h k)));
+}
+
+-- those behind the first
+pub cell_behind : (l : List ℕ) (cells : List (List ℕ)) (x : List ℕ) (xs : List (List ℕ)) (i : ℕ) (d : List ℕ) → CellsOf l cells → cells ≡ x ∷ xs → i + 1 < length l / 8
+    → record_at (get_or xs i d) 0 ≡ record_at l (8 * (i + 1))
+cell_behind l cells x xs i d c e g =
+    let s : suc i ≡ i + 1 = omega arith in
+    ap (λ (ys : List (List ℕ)). record_at (get_or ys (suc i) d) 0) (sym e) ∙ c.each (suc i) d (omega arith) ∙ ap (λ (n : ℕ). record_at l (8 * n)) s
 
 -- a record stored field by field
 pub record_stored : (l : List ℕ) (at : ℕ) (r : Record)
@@ -111,3 +150,13 @@ rest_end l i g = let e : length l / 8 - i ≡ 0 = omega arith in rw e (records-n
 
 pub rest_all : (l : List ℕ) → rest l 0 ≡ records l 0 (length l / 8)
 rest_all l = let e : length l / 8 - 0 ≡ length l / 8 = omega arith in rw e
+
+-- the first, and those behind it
+pub decode_more : (l : List ℕ) → 8 ≤ length l → decode l ≡ record_at l 0 ∷ decode (drop 8 l)
+decode_more l g =
+    let e : length l / 8 ≡ suc (length (drop 8 l) / 8) = omega (arith, length-drop 8 l) in
+    let f : records l (0 + 8) (length (drop 8 l) / 8) ≡ records (drop 8 l) 0 (length (drop 8 l) / 8) = records_same (drop 8 l) l 0 (0 + 8) _ (λ i h. let o : 0 + i ≡ i = omega arith in rw o (sym (get_or-drop 8 l i 0))) in
+    rw e (records_more l 0 (length (drop 8 l) / 8)) ∙ ap (◌∷◌ (record_at l 0)) f
+
+pub decode_end : (l : List ℕ) → length l < 8 → decode l ≡ []
+decode_end l g = let e : length l / 8 ≡ 0 = omega arith in rw e (records-none l 0)

@@ -1,7 +1,6 @@
 -- The definitions on small lists.
-use Rattle.std.specs.Prelude.{◌≡◌, refl, ℕ, true, false, List, [], ◌∷◌}
+use Rattle.std.specs.Prelude.{◌≡◌, refl, ℕ, true, false, List, [], ◌∷◌, Ok, Err}
 use Rattle.records.specs.declared.Record.{Record}
-use Rattle.records.specs.declared.Rank.TheVariants.{Found, Absent}
 use Rattle.records.specs.Records.{key, before, rising_from, rising, look, rank, ranked, tally, many, below, insert, remove, amend, bytes_of, encode, record_at, records, decode, inserted, removed, amended, up, down}
 use Rattle.wire.specs.Bytes.{part, over, get16, get32, bytes16, bytes32}
 
@@ -22,7 +21,7 @@ unfolding rising_from key
 sample-rising = refl
 
 -- the same call with other minutes is there already, and two such records are no list
-same_call : ranked (key (call 1 100 3 5)) sample ≡ Found 1
+same_call : ranked (key (call 1 100 3 5)) sample ≡ Ok 1
 unfolding ranked look rank key
 same_call = refl
 
@@ -30,7 +29,7 @@ tie : rising (call 1 100 3 0 ∷ call 1 100 3 5 ∷ []) ≡ false
 unfolding rising_from key
 tie = refl
 
-between : ranked (key (call 1 100 4 0)) sample ≡ Absent 2
+between : ranked (key (call 1 100 4 0)) sample ≡ Err 2
 unfolding ranked look rank key
 between = refl
 

@@ -1,13 +1,13 @@
 -- One turn of each loop over records in bytes.
-use Rattle.std.specs.Prelude.{◌≡◌, refl, Bool, true, false, ◌&&◌, List, ℕ, ◌+◌, ◌*◌, ◌/◌, ◌≤◌, ◌<◌, length, get_or, ltb}
-use Rattle.std.proofs.Common.{sym, ap, ◌∙◌, arith, le-leb, lt-ltb, le-ltb}
+use Rattle.std.specs.Prelude.{◌≡◌, refl, Bool, true, false, ◌&&◌, List, [], ℕ, zero, suc, ◌+◌, ◌*◌, ◌/◌, ◌≤◌, ◌<◌, length, get_or, ltb, Ok, Err}
+use Rattle.std.specs.List.Sorted.{IsNonDecreasingBy, IsPartitionPoint}
+use Rattle.std.proofs.Common.{sym, ap, ◌∙◌, arith, le-leb, lt-ltb, le-ltb, ltb-true, ltb-false}
 use Rattle.std.proofs.Math.Bool.{and_assoc}
 use Rattle.wire.specs.Cases.{by_lt, and_true}
 use Rattle.std.proofs.lemmas.Bool.{lt-leb}
-use Rattle.records.specs.declared.Rank.TheVariants.{Found, Absent}
 use Rattle.records.specs.Records.{key, rising_from, rising, rank, ranked, record_at, decode, rest}
 use Rattle.records.specs.Order.{rank-length, rank-over, rank-under, ranked_found, ranked_absent, ranked_end}
-use Rattle.records.specs.Cells.{length-records, records-at, rest_more, rest_end, rest_all}
+use Rattle.records.specs.Cells.{CellsOf, length-records, records-at, rest_more, rest_end, rest_all}
 
 -- ---- the test of a rising list
 
@@ -29,7 +29,18 @@ rising_few l g = by_lt 0 (length l / 8)
     (λ h. sym (ap (rising_from 0) (rest_all l)) ∙ sym (rising_turn l 0 0 h (omega arith)) ∙ rising_end l (key (record_at l (8 * 0)) + 1) 1 (omega arith))
     (λ h. sym (ap (rising_from 0) (rest_all l)) ∙ rising_end l 0 0 (omega arith))
 
--- by whole records: a number's key is all but its last byte, m is the greatest number with x's key, k with y's
+-- from the first record on, and past the next one: its key is y, that of the record before it x
+pub rising-start : (l : List ℕ) (x : ℕ) → 0 < length l / 8 → x ≡ key (record_at l (8 * 0)) → rising_from (x + 1) (rest l 1) ≡ rising_from 0 (decode l)
+rising-start l x g e = rw e (rising_turn l 0 0 g (omega arith)) ∙ ap (rising_from 0) (rest_all l)
+
+pub rising-past : (l : List ℕ) (x y i : ℕ) → i < length l / 8 → y ≡ key (record_at l (8 * i)) → ltb x y && rising_from (y + 1) (rest l (i + 1)) ≡ rising_from (x + 1) (rest l i)
+rising-past l x y i g e = by_lt x y
+    (λ h. rw (lt-ltb x y h, e) (rising_turn l (x + 1) i g (omega (arith, e))))
+    (λ h. rw (le-ltb x y h) (sym (rising_stop l (x + 1) i g (omega (arith, e)))))
+
+-- ---- by whole records, two a turn
+
+-- a number's key is all but its last byte, m is the greatest number with x's key, k with y's
 pub rising-next : (l : List ℕ) (x m y i : ℕ) → i < length l / 8 → m ≡ 256 * (x / 256) + 255 → y / 256 ≡ key (record_at l (8 * i))
     → ltb m y && rising_from (y / 256 + 1) (rest l (i + 1)) ≡ rising_from (x / 256 + 1) (rest l i)
 rising-next l x m y i g f e = by_lt m y
@@ -91,11 +102,42 @@ search_up l k i e g h = rank-over k 0 i (decode l) (record_at l 0) e (in_list l 
 pub search_down : (l : List ℕ) (k i : ℕ) → i < length l / 8 → k ≤ key (record_at l (8 * i)) → rank k (decode l) ≤ i
 search_down l k i g h = rank-under k i (decode l) (record_at l 0) (in_list l i g) (rw (decode-at l i g) h)
 
-pub search_found : (l : List ℕ) (k i : ℕ) → rising (decode l) ≡ true → rank k (decode l) ≡ i → i < length l / 8 → key (record_at l (8 * i)) ≡ k → Found i ≡ ranked k (decode l)
+-- lower keys stand before higher ones
+pub keys-rise : (l : List ℕ) (i j : ℕ) → rising (decode l) ≡ true → i ≤ j → j < length l / 8 → key (record_at l (8 * i)) ≤ key (record_at l (8 * j))
+keys-rise l i j e g h =
+    by_lt (key (record_at l (8 * j))) (key (record_at l (8 * i)))
+    (λ d. let a = search_up l (key (record_at l (8 * i))) j e h d in
+    let b = search_down l (key (record_at l (8 * i))) i (omega arith) (omega arith) in
+    omega arith)
+    (λ d. d)
+
+-- the place between lower keys and the others is the rank
+pub search_split : (l : List ℕ) (k i : ℕ) → rising (decode l) ≡ true → i ≤ length l / 8
+    → ((j : ℕ) → j < i → key (record_at l (8 * j)) < k) → ((j : ℕ) → i ≤ j → j < length l / 8 → k ≤ key (record_at l (8 * j))) → rank k (decode l) ≡ i
+search_split l k zero e g f h =
+    by_lt 0 (length l / 8)
+    (λ d. let a = search_down l k 0 d (h 0 (omega arith) d) in omega arith)
+    (λ d. let a = search_in l k in omega arith)
+search_split l k (suc i) e g f h =
+    let a = search_up l k i e (omega arith) (f i (omega arith)) in
+    by_lt (suc i) (length l / 8)
+    (λ d. let b = search_down l k (suc i) d (h (suc i) (omega arith) d) in omega arith)
+    (λ d. let b = search_in l k in omega arith)
+
+pub cells-rise : (l : List ℕ) (cells : List (List ℕ)) → CellsOf l cells → rising (decode l) ≡ true → IsNonDecreasingBy (λ c. key (record_at c 0)) cells
+cells-rise l cells c e i j d g h = rw (c.each i d (omega (arith, c.len)), c.each j d (omega (arith, c.len))) (keys-rise l i j e g (omega (arith, c.len)))
+
+pub search_point : (l : List ℕ) (cells : List (List ℕ)) (k i : ℕ) → CellsOf l cells → rising (decode l) ≡ true → i ≤ length cells
+    → IsPartitionPoint (λ c. ltb (key (record_at c 0)) k ≡ true) (λ c. ltb (key (record_at c 0)) k ≡ false) cells i → rank k (decode l) ≡ i
+search_point l cells k i c e g (f, h) = search_split l k i e (omega (arith, c.len))
+    (λ j b. let a = f j [] (omega arith) b in ltb-true _ k (rw (c.each j [] (omega (arith, c.len))) at a))
+    (λ j b d. let a = h j [] b (omega (arith, c.len)) in ltb-false _ k (rw (c.each j [] d) at a))
+
+pub search_found : (l : List ℕ) (k i : ℕ) → rising (decode l) ≡ true → rank k (decode l) ≡ i → i < length l / 8 → key (record_at l (8 * i)) ≡ k → Ok i ≡ ranked k (decode l)
 search_found l k i e q g h = ranked_found k i (decode l) (record_at l 0) e q (in_list l i g) (rw (decode-at l i g) h)
 
-pub search_absent : (l : List ℕ) (k i : ℕ) → rising (decode l) ≡ true → rank k (decode l) ≡ i → i < length l / 8 → (key (record_at l (8 * i)) ≡ k → ⊥) → Absent i ≡ ranked k (decode l)
+pub search_absent : (l : List ℕ) (k i : ℕ) → rising (decode l) ≡ true → rank k (decode l) ≡ i → i < length l / 8 → (key (record_at l (8 * i)) ≡ k → ⊥) → Err i ≡ ranked k (decode l)
 search_absent l k i e q g h = ranked_absent k i (decode l) (record_at l 0) e q (in_list l i g) (rw (decode-at l i g) h)
 
-pub search_end : (l : List ℕ) (k i : ℕ) → rank k (decode l) ≡ i → i ≡ length l / 8 → Absent i ≡ ranked k (decode l)
+pub search_end : (l : List ℕ) (k i : ℕ) → rank k (decode l) ≡ i → i ≡ length l / 8 → Err i ≡ ranked k (decode l)
 search_end l k i q g = ranked_end k i (decode l) q (rw length-records g)

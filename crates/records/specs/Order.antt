@@ -1,13 +1,12 @@
 -- Laws of the order and of single lists: each edit keeps a list rising, and what it holds afterwards.
-use Rattle.std.specs.Prelude.{◌≡◌, refl, Bool, true, false, ◌&&◌, ℕ, zero, suc, ◌+◌, ◌≤◌, ◌<◌, length, take, drop, set, get_or, ltb, leb, eqb}
-use Rattle.std.proofs.Common.{sym, ap, ap₂, ◌∙◌, arith, ltb-true, lt-ltb, le-ltb, le-leb, leb-true, eq-eqb, ne_eqb}
+use Rattle.std.specs.Prelude.{◌≡◌, refl, Bool, true, false, ◌&&◌, ℕ, zero, suc, ◌+◌, ◌≤◌, ◌<◌, length, take, drop, set, get_or, ltb, leb, eqb, ◌⊎◌, Result, Ok, Err}
+use Rattle.std.proofs.Common.{inl, inr, sym, ap, ap₂, ◌∙◌, arith, ltb-true, lt-ltb, le-ltb, le-leb, leb-true, eq-eqb, ne_eqb}
 use Rattle.std.proofs.Math.Option.{Option, none, some}
 use mathlib.Core.List.{List, [], ◌∷◌, ◌++◌, Memᴰ}
 use Rattle.wire.specs.All.{All, none as nothing, more}
 use Rattle.wire.specs.Bytes.{pick}
 use Rattle.wire.specs.Cases.{by_test, by_lt, by_eq, both, never, bool_iff, ltb_iff}
 use Rattle.records.specs.declared.Record.{Record}
-use Rattle.records.specs.declared.Rank.TheVariants.{Found, Absent}
 use Rattle.records.specs.Records.{Fits, key, before, rising_from, rising, look, held, rank, ranked, many, below, tally, insert, remove, lasting, amend}
 
 -- ---- the order is that of the keys
@@ -242,37 +241,41 @@ held_end k (x ∷ xs) e =
     (λ h. absurd (omega (arith, rank_here k x xs h)))
 
 -- the three ends of a search
-pub ranked_found : (k i : ℕ) (xs : List Record) (z : Record) → rising xs ≡ true → rank k xs ≡ i → i < length xs → key (get_or xs i z) ≡ k → Found i ≡ ranked k xs
+pub ranked_found : (k i : ℕ) (xs : List Record) (z : Record) → rising xs ≡ true → rank k xs ≡ i → i < length xs → key (get_or xs i z) ≡ k → Ok i ≡ ranked k xs
 unfolding ranked
 ranked_found k i xs z e q g h =
     let a : held (look k xs) ≡ true = held-rank k 0 xs z e (omega arith) ∙ eq-eqb _ k (rw q h) in
     rw (a, q)
 
-pub ranked_absent : (k i : ℕ) (xs : List Record) (z : Record) → rising xs ≡ true → rank k xs ≡ i → i < length xs → (key (get_or xs i z) ≡ k → ⊥) → Absent i ≡ ranked k xs
+pub ranked_absent : (k i : ℕ) (xs : List Record) (z : Record) → rising xs ≡ true → rank k xs ≡ i → i < length xs → (key (get_or xs i z) ≡ k → ⊥) → Err i ≡ ranked k xs
 unfolding ranked
 ranked_absent k i xs z e q g h =
     let a : held (look k xs) ≡ false = held-rank k 0 xs z e (omega arith) ∙ ne_eqb _ k (rw q h) in
     rw (a, q)
 
-pub ranked_end : (k i : ℕ) (xs : List Record) → rank k xs ≡ i → i ≡ length xs → Absent i ≡ ranked k xs
+pub ranked_end : (k i : ℕ) (xs : List Record) → rank k xs ≡ i → i ≡ length xs → Err i ≡ ranked k xs
 unfolding ranked
 ranked_end k i xs q g = let a : held (look k xs) ≡ false = held_end k xs (q ∙ g) in rw (a, q)
 
 -- and what a search has found
-found_clash : {G : Type 0} (i j : ℕ) → Absent i ≡ Found j → G
-found_clash i j e = let z : ◌≡◌ {A = ℕ} 0 1 = cc in absurd (omega arith)
+found_clash : {G : Type 0} (i j : ℕ) → Err i ≡ Ok j → G
+found_clash i j e = cc
 
-pub found_held : (k j : ℕ) (rs : List Record) → Found j ≡ ranked k rs → (held (look k rs) ≡ true) × (rank k rs ≡ j)
+pub found_held : (k j : ℕ) (rs : List Record) → Ok j ≡ ranked k rs → (held (look k rs) ≡ true) × (rank k rs ≡ j)
 unfolding ranked
 found_held k j rs e = by_test (held (look k rs))
-    (λ p. let f : Found j ≡ Found (rank k rs) = rw p at e in (p, cc))
-    (λ p. found_clash (rank k rs) j (sym (rw p at e)))
+    (λ p. let f : Ok j ≡ Ok (rank k rs) = rw p at e in (p, cc))
+    (λ p. let f : Ok j ≡ Err (rank k rs) = rw p at e in cc)
 
-pub absent_held : (k j : ℕ) (rs : List Record) → Absent j ≡ ranked k rs → (held (look k rs) ≡ false) × (rank k rs ≡ j)
+pub absent_held : (k j : ℕ) (rs : List Record) → Err j ≡ ranked k rs → (held (look k rs) ≡ false) × (rank k rs ≡ j)
 unfolding ranked
 absent_held k j rs e = by_test (held (look k rs))
-    (λ p. found_clash j (rank k rs) (rw p at e))
-    (λ p. let f : Absent j ≡ Absent (rank k rs) = rw p at e in (p, cc))
+    (λ p. let f : Err j ≡ Ok (rank k rs) = rw p at e in cc)
+    (λ p. let f : Err j ≡ Err (rank k rs) = rw p at e in (p, cc))
+
+pub found_below : (k j : ℕ) (rs : List Record) (r : Result ℕ ℕ) → rising rs ≡ true → r ≡ ranked k rs → (r ≡ Ok j) ⊎ (r ≡ Err j) → j ≡ below k rs
+found_below k j rs r e f (inl p) = sym (found_held k j rs (sym p ∙ f)).1 ∙ rank_below k 0 rs e
+found_below k j rs r e f (inr p) = sym (absent_held k j rs (sym p ∙ f)).1 ∙ rank_below k 0 rs e
 
 -- ---- insert
 
@@ -342,7 +345,7 @@ insert-behind r (x ∷ xs) (suc j) z g =
     (λ d. rw (insert_here_lem r x xs d))
 
 -- once put in, a record is found at the rank that was foretold
-pub insert-ranked : (r : Record) (xs : List Record) → ranked (key r) (insert r xs) ≡ Found (rank (key r) xs)
+pub insert-ranked : (r : Record) (xs : List Record) → ranked (key r) (insert r xs) ≡ Ok (rank (key r) xs)
 unfolding ranked
 insert-ranked r xs = rw (insert-look (key r) r xs, eq-eqb (key r) (key r) refl, insert-rank r xs)
 

@@ -1,10 +1,8 @@
 -- Records, lists of them ordered by their primary part, and their bytes.
-use Rattle.std.specs.Prelude.{ℕ, zero, suc, ◌+◌, ◌-◌, ◌*◌, ◌/◌, ◌<◌, Bool, true, false, ◌&&◌, List, [], ◌∷◌, ◌++◌, length, set, get_or, replicate, ltb, leb, eqb}
+use Rattle.std.specs.Prelude.{ℕ, zero, suc, ◌+◌, ◌-◌, ◌*◌, ◌/◌, ◌<◌, Bool, true, false, ◌&&◌, List, [], ◌∷◌, ◌++◌, length, set, get_or, replicate, ltb, leb, eqb, Result, Ok, Err}
 use Rattle.std.proofs.Math.Option.{Option, none, some}
 use Rattle.wire.specs.Bytes.{pick, part, over, get16, get32, bytes16, bytes32, is_some}
 use Rattle.records.specs.declared.Record.{Record}
-use Rattle.records.specs.declared.Rank.{Rank}
-use Rattle.records.specs.declared.Rank.TheVariants.{Found, Absent}
 
 -- one for a call that counts, none for one that does not
 unfoldable pub tally : Bool → ℕ
@@ -63,9 +61,9 @@ many p (x ∷ xs) = tally (p x) + many p xs
 abbrev pub below : ℕ → List Record → ℕ
 below k xs = many (λ x. ltb (key x) k) xs
 
--- whether a key is there, and its rank
-unfoldable pub ranked : ℕ → List Record → Rank
-ranked k xs = pick (held (look k xs)) (Found (rank k xs)) (Absent (rank k xs))
+-- where a key is, or where it would stand
+unfoldable pub ranked : ℕ → List Record → Result ℕ ℕ
+ranked k xs = pick (held (look k xs)) (Ok (rank k xs)) (Err (rank k xs))
 
 -- "Put a record": before the first that does not stand before it
 unfoldable pub insert : Record → List Record → List Record

@@ -1,12 +1,13 @@
 // Records of calls and lists of them in bytes, ordered by level, then second, then phone.
 #![tactic(auto)]
 
-ghost use Rattle.std.specs.Prelude.{◌≡◌, true, ◌+◌, ◌*◌, ◌/◌, ◌≤◌, ◌<◌, length, get_or};
-ghost use Rattle.wire.specs.Bytes.{get32, over};
-ghost use Rattle.records.specs.Records.{tally, key, record_at, bytes_of, decode, rising as ordered, ranked, below, inserted, removed, amended};
+ghost use Rattle.std.specs.Prelude.{◌≡◌, true, ◌+◌, ◌*◌, ◌/◌, ◌≤◌, ◌<◌, length};
+ghost use Rattle.wire.specs.Bytes.{over};
+ghost use Rattle.records.specs.Cells.{CellsOf};
+ghost use Rattle.records.specs.Records.{key, record_at, bytes_of, decode, rising as ordered, ranked, below, inserted, removed, amended};
 
 // A call on record. Level, second and phone are its primary part.
-#[derive(Clone, Copy)]
+#[derive(Clone, Copy, Debug, PartialEq, Eq)]
 pub struct Record {
     pub level: u8,
     pub second: u32,
@@ -14,43 +15,26 @@ pub struct Record {
     pub minutes: u8,
 }
 
-// Where a key stands in a list, or would stand: the records before it.
-#[derive(Clone, Copy)]
-pub enum Rank {
-    Found(usize),
-    Absent(usize),
-}
-
-// One for what counts, none for what does not.
-pub fn one_if(b: bool) -> usize
-    ensures { result ≡ tally b }
-{
-    if b { 1 } else { 0 }
-}
-
 // A record's primary part as one number.
 pub fn key_of(r: Record) -> u64
     ensures { result ≡ key r }
 {
-    r.level as u64 * 281474976710656 + r.second as u64 * 65536 + r.phone as u64
+    u64::from(r.level) * 281474976710656 + u64::from(r.second) * 65536 + u64::from(r.phone)
 }
 
-fn wide(x: u8) -> u64
-    ensures { (result ≡ x) × (result < 256) }
+// The 8 bytes of each record.
+fn cells(s: &[u8]) -> &[[u8; 8]]
+    ensures { CellsOf s.now result.now }
 {
-    x as u64
+    s.as_chunks().0
 }
 
-// The number of 4 bytes at an offset, the last of which is a byte.
-fn half(s: &[u8], at: usize) -> u64
-    requires { at + 3 < length s.now }
-    ensures { (result ≡ get32 s.now at) × (result < 4294967296) × (get_or s.now (at + 3) 0 < 256) }
+// The key of a record's 8 bytes, which the compiler reads at once.
+fn key_in(cell: &[u8; 8]) -> u64
+    ensures value { result ≡ key (record_at cell.now 0) }
+    ensures upper_bound { result < 72057594037927936 }
 {
-    let a = wide(s[at]);
-    let b = wide(s[at + 1]);
-    let c = wide(s[at + 2]);
-    let d = wide(s[at + 3]);
-    a * 16777216 + b * 65536 + c * 256 + d
+    u64::from_be_bytes(*cell) / 256
 }
 
 // The key of the i-th record.
@@ -58,8 +42,7 @@ pub fn key_at(s: &[u8], i: usize) -> u64
     requires { 8 * i + 8 ≤ length s.now }
     ensures { (result ≡ key (record_at s.now (8 * i))) × (result < 72057594037927936) }
 {
-    let at = 8 * i;
-    half(s, at) * 16777216 + half(s, at + 4) / 256
+    key_in(&cells(s)[i])
 }
 
 // The i-th record.
@@ -87,73 +70,35 @@ pub fn store(s: &mut [u8], at: usize, r: Record)
     s[at + 7] = r.minutes;
 }
 
-// The number of the i-th record's 8 bytes, which the compiler reads at once.
-fn whole_at(s: &[u8], i: usize) -> u64
-    requires { 8 * i + 8 ≤ length s.now }
-    ensures { result / 256 ≡ key (record_at s.now (8 * i)) }
-{
-    let at = 8 * i;
-    half(s, at) * 4294967296 + half(s, at + 4)
-}
-
-// The greatest number whose first 7 bytes are the same.
-fn greatest(x: u64) -> u64
-    ensures { result ≡ 256 * (x / 256) + 255 }
-{
-    x - x % 256 + 255
-}
-
-// Whether records are strictly rising by their primary parts. Whole records are compared, since one
-// read of 8 bytes takes less time than one of 7, and without an early exit, which takes less too.
-// A turn reads two records and takes `greatest` of those that the turn before read: of one that the
-// same turn reads, the compiler would drop the last byte and read the others one by one.
+// Whether records are strictly rising by their primary parts. The loop has no early exit, so that it
+// can be vectorised.
 pub fn rising(s: &[u8]) -> bool
     ensures { result ≡ ordered (decode s.now) }
 {
-    let n = s.len() / 8;
-    if n < 2 {
+    let Some((first, others)) = cells(s).split_first() else {
         return true;
-    }
+    };
     let mut ok = true;
-    let mut x = whole_at(s, 0);
-    let mut y = whole_at(s, 1);
-    let mut i = 2;
-    while i + 1 < n {
-        let next = whole_at(s, i);
-        ok = ok & (greatest(x) < y) & (greatest(y) < next);
-        x = next;
-        y = whole_at(s, i + 1);
-        i += 2;
+    let mut last = key_in(first);
+    for cell in others {
+        let next = key_in(cell);
+        ok = ok & (last < next);
+        last = next;
     }
-    if i < n {
-        return ok & (greatest(x) < y) & (greatest(y) < whole_at(s, i));
-    }
-    ok & (greatest(x) < y)
+    ok
 }
 
-// Finds a key in a rising list by halving.
-pub fn search(s: &[u8], key: u64) -> Rank
+// Where a key stands in a rising list, or would stand: the records before it. Found by halving.
+pub fn search(s: &[u8], key: u64) -> Result<usize, usize>
     requires { ordered (decode s.now) ≡ true }
     ensures { result ≡ ranked key (decode s.now) }
 {
-    let n = s.len() / 8;
-    let mut low = 0;
-    let mut high = n;
-    while low < high {
-        let mid = low + (high - low) / 2;
-        if key_at(s, mid) < key {
-            low = mid + 1;
-        } else {
-            high = mid;
-        }
-    }
-    if low == n {
-        return Rank::Absent(low);
-    }
-    if key_at(s, low) == key {
-        Rank::Found(low)
+    let list = cells(s);
+    let i = list.partition_point(|cell| key_in(cell) < key);
+    if i < list.len() && key_in(&list[i]) == key {
+        Ok(i)
     } else {
-        Rank::Absent(low)
+        Err(i)
     }
 }
 
@@ -163,8 +108,7 @@ pub fn count_before(s: &[u8], key: u64) -> usize
     ensures { result ≡ below key (decode s.now) }
 {
     match search(s, key) {
-        Rank::Found(i) => i,
-        Rank::Absent(i) => i,
+        Ok(i) | Err(i) => i,
     }
 }
 

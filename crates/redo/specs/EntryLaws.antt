@@ -99,6 +99,10 @@ rising_higher low p (x ∷ es) t =
 
 -- one turn of the check, at an entry whose page number is p
 module _ (l : List ℕ) (limit low j k p : ℕ) (g : j < k) (e : p ≡ get16 l (entry_at j)) where
+  pub rising_turn : rising low limit (entries l j (k - j)) ≡ (leb low p && ltb p limit) && rising (p + 1) limit (entries l (j + 1) (k - (j + 1)))
+  unfolding rising entry
+  rising_turn = rw (entries-first l j k g, ← e, ← add-one p)
+
   pub rising-low : p < low → rising low limit (entries l j (k - j)) ≡ false
   unfolding rising entry
   rising-low h = rw (entries-first l j k g, ← e, lt-leb low p h)

@@ -1,6 +1,6 @@
 // Log entries: checking, replaying and writing them. What stores is told how many stores are left, and answers how many it made.
 ghost use Rattle.std.specs.Prelude.{◌≡◌, ◌∷◌, [], ◌++◌, ◌+◌, ◌*◌, ◌≤◌, ◌<◌, length, drop};
-ghost use Rattle.wire.specs.Bytes.{part, bytes16, equal};
+ghost use Rattle.wire.specs.Bytes.{bytes16, equal};
 ghost use Rattle.redo.specs.Store.{run};
 ghost use Rattle.redo.specs.Entry.{page, entry_at, entry, entries, rising as rising_from, changes, logged, replay as replayed, Replayable, Loggable};
 ghost use Rattle.redo.specs.Stores.{recover_stores, log_stores};
@@ -14,29 +14,14 @@ pub fn rising(image: &[u8], k: usize, limit: usize) -> bool
     ensures { result ≡ rising_from 0 limit (entries image.now 0 k) }
 {
     let mut low = 0;
-    let mut j = 0;
-    while j < k {
+    for j in 0..k {
         let p = wire::get16(image, 64 + 66 * j);
-        if p < low {
-            return false;
-        }
-        if limit <= p {
+        if !(low..limit).contains(&p) {
             return false;
         }
         low = p + 1;
-        j += 1;
     }
     true
-}
-
-fn load(image: &[u8], at: usize) -> [u8; 64]
-    requires { at + 64 ≤ length image.now }
-    ensures { result ≡ part image.now at 64 }
-{
-    let mut bytes = [0u8; 64];
-    let end = at + 64;
-    wire::copy(&mut bytes, 0, &image[at..end]);
-    bytes
 }
 
 // Stores entry j's page to its place in home.
@@ -45,7 +30,8 @@ fn replay_one(image: &mut [u8], j: usize, home: usize, left: usize) -> usize
     ensures { Makes left (replayed home (entry image.old j ∷ [])) image.old result image.new }
 {
     let p = wire::get16(image, 64 + 66 * j);
-    let bytes = load(image, 64 + 66 * j + 2);
+    let at = 64 + 66 * j + 2;
+    let bytes: [u8; 64] = image[at..at + 64].try_into().unwrap();
     meter::write_at(image, home + 64 * p, &bytes, left)
 }
 
@@ -54,12 +40,9 @@ fn replay(image: &mut [u8], k: usize, home: usize, left: usize) -> usize
     requires { Replayable image.old home k }
     ensures { Makes left (replayed home (entries image.old 0 k)) image.old result image.new }
 {
-    let mut made: usize = 0;
-    let mut j = 0;
-    while j < k {
-        let page = replay_one(image, j, home, left - made);
-        made += page;
-        j += 1;
+    let mut made = 0;
+    for j in 0..k {
+        made += replay_one(image, j, home, left - made);
     }
     made
 }
@@ -73,22 +56,23 @@ pub(crate) fn replay_log(image: &mut [u8], k: usize, home: usize, left: usize) -
     if left == 0 {
         return 0;
     }
-    let a = replay(image, k, home, left);
-    let v = left - a;
-    let mark = [0u8; 1];
-    let b = meter::write_at(image, 10, &mark, v);
-    a + b
+    let made = replay(image, k, home, left);
+    made + meter::write_at(image, 10, &[0], left - made)
+}
+
+// Page p of home bytes or of a workspace.
+fn page_at(bytes: &[u8], p: usize) -> &[u8]
+    requires { 64 * p + 64 ≤ length bytes.now }
+    ensures { result.now ≡ page bytes.now p }
+{
+    &bytes[64 * p..64 * p + 64]
 }
 
 fn same_page(image: &[u8], home: usize, space: &[u8], p: usize) -> bool
     requires { (home + 64 * p + 64 ≤ length image.now) × (64 * p + 64 ≤ length space.now) }
     ensures { result ≡ equal (page (drop home image.now) p) (page space.now p) }
 {
-    let b = 64 * p;
-    let f = b + 64;
-    let a = home + b;
-    let e = a + 64;
-    wire::equal(&image[a..e], &space[b..f])
+    wire::equal(page_at(&image[home..], p), page_at(space, p))
 }
 
 // The number of pages in which the workspace differs from home.
@@ -96,14 +80,10 @@ pub fn count_changed(image: &[u8], home: usize, space: &[u8], pages: usize) -> u
     requires { (home + 64 * pages ≤ length image.now) × (64 * pages ≤ length space.now) }
     ensures { result ≡ length (changes (drop home image.now) space.now pages) }
 {
-    let mut k: usize = 0;
-    let mut p = 0;
-    while p < pages {
-        if same_page(image, home, space, p) {
-            p += 1;
-        } else {
+    let mut k = 0;
+    for p in 0..pages {
+        if !same_page(image, home, space, p) {
             k += 1;
-            p += 1;
         }
     }
     k
@@ -114,12 +94,8 @@ fn log_entry(image: &mut [u8], at: usize, space: &[u8], p: usize, left: usize) -
     requires { (at + 66 ≤ length image.old) × (64 * p + 64 ≤ length space.now) }
     ensures { Makes left (run at (bytes16 p ++ page space.now p)) image.old result image.new }
 {
-    let number = wire::bytes16(p);
-    let a = meter::write_at(image, at, &number, left);
-    let b = 64 * p;
-    let f = b + 64;
-    let c = meter::write_at(image, at + 2, &space[b..f], left - a);
-    a + c
+    let made = meter::write_at(image, at, &wire::bytes16(p), left);
+    made + meter::write_at(image, at + 2, page_at(space, p), left - made)
 }
 
 // Writes the entries of all pages that differ.
@@ -127,17 +103,12 @@ fn log_pages(image: &mut [u8], home: usize, space: &[u8], pages: usize, left: us
     requires { (home + 64 * pages ≤ length image.old) × (64 * pages ≤ length space.now) × (entry_at (length (changes (drop home image.old) space.now pages)) ≤ home) }
     ensures { Makes left (logged 0 (changes (drop home image.old) space.now pages)) image.old result image.new }
 {
-    let mut made: usize = 0;
-    let mut k: usize = 0;
-    let mut p = 0;
-    while p < pages {
-        if same_page(image, home, space, p) {
-            p += 1;
-        } else {
-            let entry = log_entry(image, 64 + 66 * k, space, p, left - made);
-            made += entry;
+    let mut made = 0;
+    let mut k = 0;
+    for p in 0..pages {
+        if !same_page(image, home, space, p) {
+            made += log_entry(image, 64 + 66 * k, space, p, left - made);
             k += 1;
-            p += 1;
         }
     }
     made
@@ -148,12 +119,8 @@ fn mark_log(image: &mut [u8], k: usize, left: usize) -> usize
     requires { 11 ≤ length image.old }
     ensures { Makes left (run 8 (bytes16 k) ++ run 10 (165 ∷ [])) image.old result image.new }
 {
-    let count = wire::bytes16(k);
-    let a = meter::write_at(image, 8, &count, left);
-    let u = left - a;
-    let mark = [165u8; 1];
-    let b = meter::write_at(image, 10, &mark, u);
-    a + b
+    let made = meter::write_at(image, 8, &wire::bytes16(k), left);
+    made + meter::write_at(image, 10, &[165], left - made)
 }
 
 // Writes the whole log: the entries of the k pages that differ, their count, and the mark.
@@ -168,7 +135,6 @@ pub(crate) fn write_log(
     requires { Loggable image.old home space.now pages k }
     ensures { Makes left (log_stores (changes (drop home image.old) space.now pages)) image.old result image.new }
 {
-    let a = log_pages(image, home, space, pages, left);
-    let b = mark_log(image, k, left - a);
-    a + b
+    let made = log_pages(image, home, space, pages, left);
+    made + mark_log(image, k, left - made)
 }

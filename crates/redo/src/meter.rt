@@ -1,32 +1,34 @@
 // Stores left and stores made. Each writer is told how many are left, and answers how many it made.
-ghost use Rattle.std.specs.Prelude.{◌≡◌, ◌+◌, ◌-◌, ◌≤◌, ◌<◌, min, length, replicate};
+ghost use Rattle.std.specs.Prelude.{◌≡◌, ◌+◌, ◌-◌, ◌^◌, ◌≤◌, ◌<◌, length, replicate};
 ghost use Rattle.wire.specs.Bytes.{zeros_but};
 ghost use Rattle.redo.specs.Store.{run};
 ghost use Rattle.redo.specs.Stage.{Makes};
 
-#[derive(Clone, Copy)]
+#[derive(Clone, Copy, Debug, PartialEq, Eq)]
 pub struct Meter {
     pub left: usize,
     pub made: usize,
 }
 
-fn least(a: usize, b: usize) -> usize
-    ensures { result ≡ min a b }
-{
-    if a < b { a } else { b }
+impl Meter {
+    // Counts n stores of those left as made.
+    pub(crate) fn spend(&mut self, n: usize)
+        requires { (n ≤ self.old.left) × (self.old.made + n < 2 ^ 64) }
+        ensures left { self.new.left ≡ self.old.left - n }
+        ensures made { self.new.made ≡ self.old.made + n }
+    {
+        self.left -= n;
+        self.made += n;
+    }
 }
 
 // Stores src at dst's start, as far as the stores left go.
-pub(crate) fn write_run(dst: &mut [u8], src: &[u8], left: usize) -> usize
+fn write_run(dst: &mut [u8], src: &[u8], left: usize) -> usize
     requires { length src.now ≤ length dst.old }
     ensures { Makes left (run 0 src.now) dst.old result dst.new }
 {
-    let n = least(left, src.len());
-    let mut i = 0;
-    while i < n {
-        dst[i] = src[i];
-        i += 1;
-    }
+    let n = left.min(src.len());
+    wire::copy(dst, 0, &src[..n]);
     n
 }
 
@@ -35,8 +37,7 @@ pub fn write_at(image: &mut [u8], at: usize, src: &[u8], left: usize) -> usize
     requires { at + length src.now ≤ length image.old }
     ensures { Makes left (run at src.now) image.old result image.new }
 {
-    let end = at + src.len();
-    write_run(&mut image[at..end], src, left)
+    write_run(&mut image[at..at + src.len()], src, left)
 }
 
 // Stores so many zeros from an offset of the image on.
@@ -44,7 +45,7 @@ fn write_zeros(image: &mut [u8], at: usize, count: usize, left: usize) -> usize
     requires { at + count ≤ length image.old }
     ensures { Makes left (run at (replicate count 0)) image.old result image.new }
 {
-    let n = least(left, count);
+    let n = left.min(count);
     wire::fill(image, at, n, 0);
     n
 }
@@ -54,10 +55,9 @@ pub fn write_rest(image: &mut [u8], at: usize, p: usize, v: u8, left: usize) -> 
     requires { (at ≤ p) × (p < length image.old) }
     ensures { Makes left (run at (zeros_but (p - at) v (length image.old - at))) image.old result image.new }
 {
-    let byte = [v; 1];
     let end = image.len();
-    let a = write_zeros(image, at, p - at, left);
-    let b = write_at(image, p, &byte, left - a);
-    let c = write_zeros(image, p + 1, end - (p + 1), left - (a + b));
-    a + b + c
+    let mut made = write_zeros(image, at, p - at, left);
+    made += write_at(image, p, &[v], left - made);
+    made += write_zeros(image, p + 1, end - (p + 1), left - made);
+    made
 }

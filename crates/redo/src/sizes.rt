@@ -9,10 +9,7 @@ pub(crate) const LETTERS: [u8; 4] = *b"CIX1";
 pub fn in_range(capacity: usize, pages: usize) -> bool
     ensures { result ≡ in_range capacity pages }
 {
-    if 1024 < pages {
-        return false;
-    }
-    (1 <= pages) & (pages <= 1024) & (1 <= capacity) & (capacity <= 26 + pages)
+    (1..=1024).contains(&pages) && (1..=26 + pages).contains(&capacity)
 }
 
 pub fn image_length(capacity: usize, pages: usize) -> usize
@@ -27,8 +24,7 @@ pub fn head_page(capacity: usize, pages: usize) -> [u8; 64]
     ensures { result ≡ head_page capacity pages }
 {
     let mut head = [0u8; 64];
-    let letters = LETTERS;
-    wire::copy(&mut head, 0, &letters);
+    wire::copy(&mut head, 0, &LETTERS);
     wire::put16(&mut head, 4, capacity);
     wire::put16(&mut head, 6, pages);
     head
@@ -41,11 +37,10 @@ pub fn head_ok(image: &[u8]) -> bool
     if image.len() < 64 {
         return false;
     }
-    let letters = LETTERS;
     let capacity = wire::get16(image, 4);
     let pages = wire::get16(image, 6);
-    let named = wire::equal(&image[0..4], &letters);
-    let sized = in_range(capacity, pages);
-    let blank = wire::all_zero(&image[11..64]);
-    named & sized & blank & (image.len() == image_length(capacity, pages))
+    wire::equal(&image[..4], &LETTERS)
+        && in_range(capacity, pages)
+        && wire::all_zero(&image[11..64])
+        && image.len() == image_length(capacity, pages)
 }

@@ -1,5 +1,5 @@
 // The stages of commit and recover. One meter is made for a call and lent to each of its stages in turn.
-// Each stage takes the stores left out of it, lets a function of `entry` spend them, and puts both numbers back.
+// In each stage a function of `entry` makes what stores it can of those left, and the meter counts them.
 ghost use Rattle.std.specs.Prelude.{◌+◌, ◌<◌, ◌^◌, drop};
 ghost use Rattle.redo.specs.Entry.{entries, changes, Replayable, Loggable};
 ghost use Rattle.redo.specs.Stores.{recover_stores, log_stores, commit_stores};
@@ -13,10 +13,8 @@ fn log_stage(image: &mut [u8], home: usize, space: &[u8], pages: usize, k: usize
     requires { Loggable image.old home space.now pages k × (meter.old.left + meter.old.made < 2 ^ 64) }
     ensures { Stage meter.old.left meter.old.made (log_stores (changes (drop home image.old) space.now pages)) image.old meter.new.left meter.new.made image.new }
 {
-    let left = meter.left;
-    let n = entry::write_log(image, home, space, pages, k, left);
-    meter.left = left - n;
-    meter.made = meter.made + n;
+    let made = entry::write_log(image, home, space, pages, k, meter.left);
+    meter.spend(made);
 }
 
 // The last stage of a commit and the only one of a recovery: the logged pages to home, then the mark cleared.
@@ -24,10 +22,8 @@ fn replay_stage(image: &mut [u8], k: usize, home: usize, meter: &mut Meter)
     requires { (0 < meter.old.left → Replayable image.old home k) × (meter.old.left + meter.old.made < 2 ^ 64) }
     ensures { Stage meter.old.left meter.old.made (recover_stores home (entries image.old 0 k)) image.old meter.new.left meter.new.made image.new }
 {
-    let left = meter.left;
-    let n = entry::replay_log(image, k, home, left);
-    meter.left = left - n;
-    meter.made = meter.made + n;
+    let made = entry::replay_log(image, k, home, meter.left);
+    meter.spend(made);
 }
 
 // A recovery: one stage.

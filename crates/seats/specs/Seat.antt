@@ -1,12 +1,11 @@
 -- A cell for a block, on home's bytes: of the zone table only the entries of its class and of higher ones are read and written.
-use Rattle.std.specs.Prelude.{◌≢◌, Bool, List, ℕ, zero, suc, ◌+◌, ◌*◌, ◌-◌, ◌≤◌, ◌<◌, leb, eqb, length}
+use Rattle.std.specs.Prelude.{◌≢◌, Bool, List, ℕ, zero, suc, ◌+◌, ◌*◌, ◌-◌, ◌≤◌, ◌<◌, leb, eqb, length, Some, None}
+use Rattle.std.specs.declared.option.Option.{Option as Maybe}
 use Rattle.std.proofs.Math.Option.{Option, none, some, map}
 use Rattle.wire.specs.Bytes.{pick}
 use Rattle.layout.specs.Capacities.{cells}
 use Rattle.home.specs.Bytes.{cell_at, first_at, many_at, end_at}
 use Rattle.moves.specs.Moves.{Movable, zoned, moved}
-use Rattle.seats.specs.declared.Room.{Room}
-use Rattle.seats.specs.declared.Room.TheVariants.{At, Nowhere}
 
 -- "it goes to the end of zone c, or if that is empty to the end of the nearest lower nonempty zone, or to cell 0": a block of k cells, in a zone with n others
 -- from cell f on, where the lower zones end at e
@@ -48,8 +47,8 @@ raised step (suc m) h c e =
     (pick (leb e f) (some h) (map (λ (x : List ℕ). displaced step x c f n q) (raised step m h (suc c) (q + cells step c))))
 
 -- at cell p, if there is room
-unfoldable pub room_of : Bool → ℕ → Room
-room_of b p = pick b (At p) Nowhere
+unfoldable pub room_of : Bool → ℕ → Maybe ℕ
+room_of b p = pick b (Some p) None
 
 -- ---- what is asked of the bytes
 

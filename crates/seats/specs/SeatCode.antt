@@ -1,5 +1,7 @@
 -- What the code that finds a cell knows at its places.
-use Rattle.std.specs.Prelude.{◌≡◌, ◌≢◌, Bool, ℕ, suc, ◌+◌, ◌*◌, ◌-◌, ◌≤◌, ◌<◌, leb}
+use Rattle.std.specs.Prelude.{◌≡◌, ◌≢◌, Bool, true, false, ℕ, suc, ◌+◌, ◌*◌, ◌-◌, ◌≤◌, ◌<◌, leb, Some, None}
+use Rattle.std.specs.Bool.{then_some}
+use Rattle.std.specs.declared.option.Option.{Option as Maybe}
 use Rattle.std.proofs.Math.Path.{refl, ap, subst}
 use Rattle.std.proofs.Common.{sym, ap₂, ◌∙◌, add-one}
 use Rattle.std.proofs.Math.Option.{Option, none, some, map, get_or}
@@ -13,8 +15,6 @@ use Rattle.layout.specs.Cases.{by_pick, Holds}
 use Rattle.home.specs.Bytes.{cell_at, first_at, many_at, end_at}
 use Rattle.home.specs.EndLaws.{end_some}
 use Rattle.moves.specs.Moves.{Movable, moved, zoned}
-use Rattle.seats.specs.declared.Room.{Room}
-use Rattle.seats.specs.declared.Room.TheVariants.{At, Nowhere}
 use Rattle.seats.specs.Seat.{cell_for, first_with, next_zone, displaced, raised, room_of, Stacked, Seatable, seated}
 use Rattle.seats.specs.UntouchedLaws.{Untouched, untouched_movable}
 use Rattle.seats.specs.StackLaws.{raised_stays, lift, raised_lifts, lift-low, lift_high, one_of, stacked_inside, raised_inside, raised_untouched, Next, next_is}
@@ -33,8 +33,8 @@ pub able_small : (step : ℕ) (h : List ℕ) (c f n e : ℕ) → Seatable step h
 able_small step h c f n e s k q = rw q (omega (arith, able_inside step h c f n e s, s.long))
 
 -- room made for it, as the call answers
-pub record Answers (step : ℕ) (h : List ℕ) (c f n e : ℕ) (r : Room) (h' : List ℕ) : Type 0 where
-  pub room : r ≡ room_of (is_some (seated step h c f n e)) (cell_for e f n (cells step c))
+pub record Answers (step : ℕ) (h : List ℕ) (c f n e : ℕ) (r : Maybe ℕ) (h' : List ℕ) : Type 0 where
+  pub room : r ≡ then_some (is_some (seated step h c f n e)) (cell_for e f n (cells step c))
   pub bytes : h' ≡ get_or (seated step h c f n e) h
 
 -- zone d's first block at cell g goes to cell q
@@ -43,10 +43,16 @@ pub record Displaces (step : ℕ) (h h' : List ℕ) (c f n e p d g m q : ℕ) : 
   pub old : cell_at g + 8 * cells step d ≤ length h'
   pub new : cell_at q + 8 * cells step d ≤ length h'
   pub movable : Movable h' g
-  pub done : Answers step h c f n e (At p) (displaced step h' d g m q)
+  pub done : Answers step h c f n e (Some p) (displaced step h' d g m q)
 
-pub clash : {G : Type 0} (i : ℕ) → At i ≡ Nowhere → G
-clash i e = let z : ◌≡◌ {A = ℕ} 0 1 = cc in absurd (omega arith)
+pub clash : {G : Type 0} (i : ℕ) → Some i ≡ None → G
+clash i e = cc
+
+-- the room answered, by its test
+pub room_then : (b : Bool) (p : ℕ) → room_of b p ≡ then_some b p
+unfolding room_of
+room_then true p = refl
+room_then false p = refl
 
 module _ (step : ℕ) (h : List ℕ) (c f n e k p d : ℕ) (s : Seating step h c f n e k p d) where
   -- where the zones up to c end while its block is not there
@@ -74,16 +80,16 @@ module _ (step : ℕ) (h : List ℕ) (c f n e k p d : ℕ) (s : Seating step h c
   near : p + k ≤ e₀ + cells step (c + 1)
   near = rw add-one (omega (arith, cell_is, s.able.cell, s.size, cells_mono step c))
 
-  answers : (o : Option (List ℕ)) (r : Room) (h' : List ℕ) → seated step h c f n e ≡ o → r ≡ room_of (is_some o) p → h' ≡ get_or o h → Answers step h c f n e r h'
+  answers : (o : Option (List ℕ)) (r : Maybe ℕ) (h' : List ℕ) → seated step h c f n e ≡ o → r ≡ then_some (is_some o) p → h' ≡ get_or o h → Answers step h c f n e r h'
   answers o r h' q a b = record { room = rw (q, ← cell_is) a; bytes = rw q b }
 
   -- no zone is in the way, up to the end of the bytes
-  pub seat_last : d ≡ 30 → (r : Room) → r ≡ room_of (leb (1664 + 8 * (p + k)) (length h)) p → Answers step h c f n e r h
+  pub seat_last : d ≡ 30 → (r : Maybe ℕ) → r ≡ then_some (leb (1664 + 8 * (p + k)) (length h)) p → Answers step h c f n e r h
   unfolding raised
   seat_last q r a =
       let z : 30 - d ≡ 0 = omega arith in
       by_pick (λ (o : Option (List ℕ)). seated step h c f n e ≡ o → Answers step h c f n e r h) (leb (cell_at (p + k)) (length h))
-      (λ t y. answers (some h) r h y (a ∙ ap (λ (b : Bool). room_of b p) t) refl) (λ t y. answers none r h y (a ∙ ap (λ (b : Bool). room_of b p) t) refl)
+      (λ t y. answers (some h) r h y (a ∙ ap (λ (b : Bool). then_some b p) t) refl) (λ t y. answers none r h y (a ∙ ap (λ (b : Bool). then_some b p) t) refl)
       (seated_is ∙ ap (λ (j : ℕ). raised step j h d (p + k)) z)
 
   module _ (q : d ≡ 30 → ⊥) where
@@ -96,9 +102,8 @@ module _ (step : ℕ) (h : List ℕ) (c f n e k p d : ℕ) (s : Seating step h c
     seated_on : seated step h c f n e ≡ raised step (suc (29 - d)) h d (p + k)
     seated_on = seated_is ∙ ap (λ (j : ℕ). raised step j h d (p + k)) fuel
 
-    pub seat_before : (g : ℕ) → g ≡ first_at h d → p + k ≤ g → Answers step h c f n e (At p) h
-    unfolding room_of
-    seat_before g a b = answers (some h) (At p) h (seated_on ∙ raised_stays step h d (p + k) (29 - d) (next.some q) (subst (λ (x : ℕ). p + k ≤ x) a b)) refl refl
+    pub seat_before : (g : ℕ) → g ≡ first_at h d → p + k ≤ g → Answers step h c f n e (Some p) h
+    seat_before g a b = answers (some h) (Some p) h (seated_on ∙ raised_stays step h d (p + k) (29 - d) (next.some q) (subst (λ (x : ℕ). p + k ≤ x) a b)) refl refl
 
 -- zone d's first block at cell g is in the way; it has m others, from cell `rest` on
 pub record InWay (step : ℕ) (h : List ℕ) (c f n e k p d g rest m : ℕ) : Type 0 where
@@ -166,28 +171,26 @@ module _ (step : ℕ) (h : List ℕ) (c f n e k p d g rest m : ℕ) (w : InWay s
       (omega (arith, end_some step h d old_end some_there, (lift_high step h d (p + k) some_there close).0, cells_mono step d))
 
   -- what the call for that block answers
-  module _ (r : Room) (h' : List ℕ) (t : Answers step h d rest m (p + k) r h') where
-    room_is : r ≡ room_of (is_some o) to
-    room_is = t.room ∙ ap₂ room_of (ap is_some again_is) to_is
+  module _ (r : Maybe ℕ) (h' : List ℕ) (t : Answers step h d rest m (p + k) r h') where
+    room_is : r ≡ then_some (is_some o) to
+    room_is = t.room ∙ ap₂ then_some (ap is_some again_is) to_is
 
     bytes_are : h' ≡ get_or o h
     bytes_are = t.bytes ∙ ap (λ (x : Option (List ℕ)). get_or x h) again_is
 
-    pub seat_none : r ≡ Nowhere → Answers step h c f n e Nowhere h'
-    unfolding room_of
+    pub seat_none : r ≡ None → Answers step h c f n e None h'
     seat_none z = by o (sym z ∙ room_is) bytes_are lifts
       where
-        by : (x : Option (List ℕ)) → Nowhere ≡ room_of (is_some x) to → h' ≡ get_or x h → seated step h c f n e ≡ map (λ (y : List ℕ). displaced step y d g m to) x → Answers step h c f n e Nowhere h'
-        by none a b y = answers step h c f n e k p d s none Nowhere h' y refl b
-        by (some x) a b y = clash to (sym a)
+        by : (x : Option (List ℕ)) → None ≡ then_some (is_some x) to → h' ≡ get_or x h → seated step h c f n e ≡ map (λ (y : List ℕ). displaced step y d g m to) x → Answers step h c f n e None h'
+        by none a b y = answers step h c f n e k p d s none None h' y refl b
+        by (some x) a b y = cc
 
-    pub seat_moves : (q : ℕ) → r ≡ At q → Displaces step h h' c f n e p d g m q
-    unfolding room_of
+    pub seat_moves : (q : ℕ) → r ≡ Some q → Displaces step h h' c f n e p d g m q
     seat_moves q z = by o (sym z ∙ room_is) bytes_are lifts left new
       where
-        by : (x : Option (List ℕ)) → At q ≡ room_of (is_some x) to → h' ≡ get_or x h → seated step h c f n e ≡ map (λ (y : List ℕ). displaced step y d g m to) x
+        by : (x : Option (List ℕ)) → Some q ≡ then_some (is_some x) to → h' ≡ get_or x h → seated step h c f n e ≡ map (λ (y : List ℕ). displaced step y d g m to) x
             → Holds (Untouched (suc g) h) x → Holds (λ (y : List ℕ). cell_at (to + cells step d) ≤ length h) x → Displaces step h h' c f n e p d g m q
-        by none a b y u v = clash q a
+        by none a b y u v = cc
         by (some x) a b y u v =
             let i : q ≡ to = cc in
             let m' : Movable h' g = subst (λ (l : List ℕ). Movable l g) (sym b) (untouched_movable (suc g) h x g u (omega arith) (subst (Movable h) (sym w.first) (stack.0 some_there).1)) in
@@ -197,10 +200,10 @@ module _ (step : ℕ) (h : List ℕ) (c f n e k p d g rest m : ℕ) (w : InWay s
               old = omega (arith, old, l);
               new = omega (arith, v, l, i);
               movable = m';
-              done = answers step h c f n e k p d s (some (displaced step x d g m to)) (At p) (displaced step h' d g m q) y refl (ap₂ (λ (w : List ℕ) (j : ℕ). displaced step w d g m j) b i);
+              done = answers step h c f n e k p d s (some (displaced step x d g m to)) (Some p) (displaced step h' d g m q) y refl (ap₂ (λ (w : List ℕ) (j : ℕ). displaced step w d g m j) b i);
             }
 
     -- moved, with its zone's entry
-    pub seat_done : (q : ℕ) → r ≡ At q → (h₁ h₂ : List ℕ) (i : ℕ) → h₁ ≡ moved step h' d g q → i ≡ first_with m rest q → h₂ ≡ zoned h₁ d i (m + 1) → Answers step h c f n e (At p) h₂
+    pub seat_done : (q : ℕ) → r ≡ Some q → (h₁ h₂ : List ℕ) (i : ℕ) → h₁ ≡ moved step h' d g q → i ≡ first_with m rest q → h₂ ≡ zoned h₁ d i (m + 1) → Answers step h c f n e (Some p) h₂
     unfolding displaced
-    seat_done q z h₁ h₂ i a b y = subst (Answers step h c f n e (At p)) (sym (y ∙ rw (a, b, w.start))) (seat_moves q z).done
+    seat_done q z h₁ h₂ i a b y = subst (Answers step h c f n e (Some p)) (sym (y ∙ rw (a, b, w.start))) (seat_moves q z).done

@@ -1,10 +1,12 @@
--- A block's cell, and the turns of the two walks along the classes: the end carried along, and the next nonempty zone.
-use Rattle.std.specs.Prelude.{◌≡◌, ◌≢◌, List}
-use Rattle.std.proofs.Math.Path.{sym, ap}
+-- A block's cell, and the two walks along the classes: the end carried along, and the next nonempty zone.
+use Rattle.std.specs.Prelude.{◌≡◌, ◌≢◌, List, Some, None, MatchOption}
+use Rattle.std.specs.declared.option.Option.{Option}
+use Rattle.std.proofs.Math.Path.{sym, ap, subst}
 use Rattle.std.proofs.Common.{◌∙◌, eq-eqb, ne_eqb}
-use Prim.Native.Nat.{ℕ, suc, ◌+◌, ◌*◌, ◌-◌, ◌≤◌, ◌<◌}
+use Prim.Native.Nat.{ℕ, zero, suc, ◌+◌, ◌*◌, ◌-◌, ◌≤◌, ◌<◌}
 use native.Mathlib.Omega.{arith}
 use Rattle.std.proofs.Math.Numerals.{add-one}
+use Rattle.wire.specs.Cases.{by_eq}
 use Rattle.home.specs.Bytes.{many_at, end_at}
 use Rattle.seats.specs.Seat.{cell_for, first_with, end_from, next_zone}
 
@@ -43,7 +45,26 @@ pub pass_done : (step : ℕ) (h : List ℕ) (c e k d end : ℕ) → Passing step
 unfolding end_from
 pass_done step h c e k d end p g = let s : k - d ≡ 0 = omega (arith, p.class) in ap (λ (m : ℕ). end_from step m h d end) (sym s) ∙ p.same
 
--- the next nonempty zone from class d on is that from class c on
+-- ---- the next nonempty zone
+
+-- it is the first that counts, or the class behind them
+next_first : (h : List ℕ) (d m c : ℕ) → c ≤ d → d ≤ m + c → ((k : ℕ) → c ≤ k → k < d → many_at h k ≡ 0) → (d < m + c → many_at h d ≢ 0) → d ≡ next_zone m h c
+unfolding next_zone
+next_first h d zero c lo hi below here = omega arith
+next_first h d (suc m) c lo hi below here =
+    by_eq (many_at h c) 0
+    (λ z. rw (eq-eqb (many_at h c) 0 z) (by_eq c d
+    (λ e. absurd (here (omega arith) (subst (λ (k : ℕ). many_at h k ≡ 0) e z)))
+    (λ n. next_first h d m (suc c) (omega arith) (omega arith) (λ k a b. below k (omega arith) b) (λ b. here (omega arith)))))
+    (λ n. rw (ne_eqb (many_at h c) 0 n) (by_eq c d sym (λ q. absurd (n (below c (omega arith) (omega arith))))))
+
+pub next_found : (h : List ℕ) (c : ℕ) → c ≤ 30 → (r : Option ℕ)
+    → MatchOption r ((k : ℕ) → c ≤ k → k < 30 → many_at h k ≡ 0) (λ d. (c ≤ d) × (d < 30) × (many_at h d ≢ 0) × ((k : ℕ) → c ≤ k → k < d → many_at h k ≡ 0))
+    → MatchOption r (next_zone (30 - c) h c ≡ 30) (λ d. (d ≡ next_zone (30 - c) h c) × (d < 30))
+next_found h c g None m = sym (next_first h 30 (30 - c) c g (omega arith) m (λ b. absurd (omega arith)))
+next_found h c g (Some d) m = (next_first h d (30 - c) c m.0 (omega arith) m.3 (λ b. m.2), m.1)
+
+-- class by class: from class d on it is that from class c on
 pub record Seeking (h : List ℕ) (c d : ℕ) : Type 0 where
   pub class : d ≤ 30
   pub same : next_zone (30 - d) h d ≡ next_zone (30 - c) h c

@@ -1,5 +1,6 @@
 -- What a server does with the bytes that it read. What the system's read and write do is not known.
-use Rattle.std.specs.Prelude.{◌≡◌, Bool, true, false, ◌||◌, List, [], ◌∷◌, ◌++◌, ℕ, ◌+◌, leb, length, take}
+use Rattle.std.specs.Prelude.{◌≡◌, true, ◌||◌, List, [], ◌∷◌, ◌++◌, ℕ, ◌+◌, leb, length, take, Ok, Err}
+use Rattle.std.specs.declared.result.Result.{Result}
 use Rattle.stream.specs.Stream.{Open, state, lines_of, answers, answered, after, said, ending, ended}
 use Rattle.serve.specs.declared.Served.{Served}
 use Rattle.serve.specs.declared.Served.TheVariants.{Input, Output, Bound}
@@ -15,10 +16,10 @@ pub record Begun (s : Open) (bs l w : List ℕ) : Type 0 where
   pub image : l ≡ (after s (take taken bs)).image
   pub space : w ≡ (after s (take taken bs)).space
 
--- a piece passed on: whether all answers were written, how many bytes, and what is there now
-unfoldable pub Passes : Open → List ℕ → Bool → ℕ → Open → Type 0
-Passes s p true sent t = Taken s p sent t
-Passes s p false sent t = Begun s p t.image t.space
+-- a piece passed on: all answers written, so many bytes, or a write failed; and what is there now
+unfoldable pub Passes : {E : Type 0} → Open → List ℕ → Result ℕ E → Open → Type 0
+Passes s p (Ok sent) t = Taken s p sent t
+Passes s p (Err e) t = Begun s p t.image t.space
 
 -- the input so far, from image l and workspace w on: as many bytes as were read
 pub record Serving (l w : List ℕ) (read sent : ℕ) (t : Open) : Type 0 where

@@ -1,11 +1,12 @@
 -- A server's turns.
-use Rattle.std.specs.Prelude.{◌≡◌, refl, Bool, true, false, List, [], ◌∷◌, ◌++◌, ℕ, ◌+◌, ◌-◌, ◌≤◌, ◌<◌, leb, length, take, drop}
+use Rattle.std.specs.Prelude.{◌≡◌, refl, List, [], ◌∷◌, ◌++◌, ℕ, ◌+◌, ◌-◌, ◌≤◌, ◌<◌, leb, length, take, drop, Ok, Err}
+use Rattle.std.specs.declared.result.Result.{Result}
 use Rattle.std.proofs.Common.{sym, ap, ◌∙◌, append-nil, arith, length-append, length-drop, take_all, take-add, length-take-le, eq-eqb, ne_eqb, le-leb}
 use Rattle.std.proofs.Math.Bool.{or-true}
 use Rattle.std.proofs.Math.Nat.{sub-zero}
 use Rattle.std.proofs.Math.Seq.{take-append-add, take-append_seam}
 use Rattle.std.proofs.lemmas.List.{take-append-le}
-use Rattle.wire.specs.Cases.{by_lt, never}
+use Rattle.wire.specs.Cases.{by_lt}
 use Rattle.parse.specs.Grammar.{parsed}
 use Rattle.print.specs.Print.{longest}
 use Rattle.lines.specs.Answer.{line_text}
@@ -78,15 +79,13 @@ pub taken_begun : (s : Open) (p : List ℕ) (from sent : ℕ) (t : Open) → Tak
 taken_begun s p from sent t a = record { taken = from; image = ap (λ (x : Open). x.image) a.there; space = ap (λ (x : Open). x.space) a.there }
 
 -- by whether all was written
-pub passed_on : (s : Open) (p : List ℕ) (b : Bool) (sent : ℕ) (t : Open) → Passes s p b sent t → b ≡ true → Taken s p sent t
+pub passed_on : {E : Type 0} (s : Open) (p : List ℕ) (r : Result ℕ E) (sent : ℕ) (t : Open) → Passes s p r t → r ≡ Ok sent → Taken s p sent t
 unfolding Passes
-passed_on s p true sent t h e = h
-passed_on s p false sent t h e = never e
+passed_on s p r sent t h e = rw e at h
 
-pub passed_off : (s : Open) (p : List ℕ) (b : Bool) (sent : ℕ) (t : Open) → Passes s p b sent t → b ≡ false → Begun s p t.image t.space
+pub passed_off : {E : Type 0} (s : Open) (p : List ℕ) (r : Result ℕ E) (e : E) (t : Open) → Passes s p r t → r ≡ Err e → Begun s p t.image t.space
 unfolding Passes
-passed_off s p true sent t h e = never (sym e)
-passed_off s p false sent t h e = h
+passed_off s p r e t h q = rw q at h
 
 -- ---- the input so far
 

@@ -1,8 +1,9 @@
 -- Bytes taken in piece by piece are the lines of the whole input, answered one after another.
 use Rattle.std.specs.Prelude.{◌≡◌, refl, List, [], ◌∷◌, ◌++◌, ℕ, eqb, length}
+use Rattle.std.specs.declared.option.Option.{Option}
 use Rattle.std.proofs.Common.{sym, ap, ◌∙◌, append_assoc, append-nil, arith, ne_eqb}
 use Rattle.wire.specs.Cases.{by_test}
-use Rattle.parse.specs.declared.Parsed.{Parsed}
+use Rattle.parse.specs.declared.Command.{Command}
 use Rattle.text.specs.Text.{onto}
 use Rattle.parse.specs.Grammar.{parsed}
 use Rattle.lines.specs.Answer.{line_text, line_image, line_space}
@@ -39,7 +40,7 @@ unfolding ending ended answers answered behind clip
 ends [] l w = (refl, refl)
 ends (b ∷ k) l w =
     rw (ne_eqb (length (clip (b ∷ k))) 0 (λ q. absurd (omega (arith, q)))) (
-      ap (λ (x : Parsed). line_text x l w) (parsed-clip (b ∷ k)) ∙ sym (append-nil (line_text (parsed (b ∷ k)) l w)),
+      ap (λ (x : Option Command). line_text x l w) (parsed-clip (b ∷ k)) ∙ sym (append-nil (line_text (parsed (b ∷ k)) l w)),
       next-closed (b ∷ k) l w 10 refl,
     )
 

@@ -14,7 +14,7 @@ use print::LONGEST;
 use text::find;
 
 // Of a piece: the bytes used, the bytes held of a line still open, the bytes printed.
-#[derive(Clone, Copy)]
+#[derive(Clone, Copy, Debug, PartialEq, Eq)]
 pub struct Fed {
     pub used: usize,
     pub held: usize,
@@ -26,13 +26,9 @@ fn keep(kept: &mut [u8], held: usize, bytes: &[u8]) -> usize
     requires { (held ≤ 81) × (81 ≤ length kept.old) }
     ensures { (take result kept.new ≡ clip (take held kept.old ++ bytes.now)) × (result ≤ 81) }
 {
-    let room = 81 - held;
-    if bytes.len() <= room {
-        wire::copy(kept, held, bytes);
-        return held + bytes.len();
-    }
-    wire::copy(kept, held, &bytes[0..room]);
-    81
+    let n = bytes.len().min(81 - held);
+    wire::copy(kept, held, &bytes[..n]);
+    held + n
 }
 
 // Answers the line of the bytes held and the rest.
@@ -52,7 +48,7 @@ fn answer_kept(
         return answer_line(image, space, rest, out);
     }
     let end = keep(kept, held, rest);
-    answer_line(image, space, &kept[0..end], out)
+    answer_line(image, space, &kept[..end], out)
 }
 
 // Answers a piece's first line, or keeps it where its end is not there yet.
@@ -68,21 +64,17 @@ fn step(
     ensures feeds { Feeds (state (take held kept.old) image.old space.old) piece.now out.old result kept.new image.new space.new out.new }
     ensures held_bound { (result.held ≤ 81) × (result.printed ≤ longest) × (0 < length piece.now → 0 < result.used) }
 {
-    let n = piece.len();
-    let end = find(piece, 0, b'\n');
-    if n <= end {
-        let holds = keep(kept, held, piece);
-        return Fed {
-            used: n,
-            held: holds,
+    match find(piece, 0, b'\n') {
+        None => Fed {
+            used: piece.len(),
+            held: keep(kept, held, piece),
             printed: 0,
-        };
-    }
-    let printed = answer_kept(image, space, kept, held, &piece[0..end], out);
-    Fed {
-        used: end + 1,
-        held: 0,
-        printed: printed,
+        },
+        Some(end) => Fed {
+            used: end + 1,
+            held: 0,
+            printed: answer_kept(image, space, kept, held, &piece[..end], out),
+        },
     }
 }
 
@@ -99,32 +91,27 @@ fn feed_lines(
     ensures feeds { Feeds (state (take held kept.old) image.old space.old) piece.now out.old result kept.new image.new space.new out.new }
     ensures held_bound { (result.held ≤ 81) × (result.used < length piece.now → length out.old < result.printed + longest) }
 {
-    let n = piece.len();
-    let room = out.len();
-    let mut used = 0;
-    let mut holds = held;
-    let mut at = 0;
-    while used < n {
-        if room - at < LONGEST {
-            break;
-        }
+    let mut fed = Fed {
+        used: 0,
+        held: held,
+        printed: 0,
+    };
+    while fed.used < piece.len() && LONGEST <= out.len() - fed.printed {
         let f = step(
             image,
             space,
             kept,
-            holds,
-            &piece[used..n],
-            &mut out[at..room],
+            fed.held,
+            &piece[fed.used..],
+            &mut out[fed.printed..],
         );
-        used += f.used;
-        holds = f.held;
-        at += f.printed;
+        fed = Fed {
+            used: fed.used + f.used,
+            held: f.held,
+            printed: fed.printed + f.printed,
+        };
     }
-    Fed {
-        used: used,
-        held: holds,
-        printed: at,
-    }
+    fed
 }
 
 // Takes in a piece: answers its lines as far as the output has room, and keeps what is left of an open line.
@@ -141,16 +128,12 @@ pub fn feed(
     ensures feeds { Feeds (state (take held kept.old) image.old space.old) piece.now out.old result kept.new image.new space.new out.new }
     ensures held_bound { (held ≤ 81) × (81 ≤ length kept.old) → (result.held ≤ 81) × (result.used < length piece.now → length out.old < result.printed + longest) }
 {
-    let none = Fed {
-        used: 0,
-        held: held,
-        printed: 0,
-    };
-    if 81 < held {
-        return none;
-    }
-    if kept.len() < 81 {
-        return none;
+    if 81 < held || kept.len() < 81 {
+        return Fed {
+            used: 0,
+            held: held,
+            printed: 0,
+        };
     }
     feed_lines(image, space, kept, held, piece, out)
 }

@@ -1,8 +1,6 @@
 -- Fields and numbers in text.
-use Rattle.std.specs.Prelude.{◌≡◌, Bool, true, false, ◌&&◌, not, List, [], ◌∷◌, ◌++◌, ℕ, zero, suc, ◌+◌, ◌*◌, ◌-◌, ◌/◌, ◌%◌, ◌≤◌, eqb, leb, ltb}
+use Rattle.std.specs.Prelude.{◌≡◌, Bool, true, false, ◌&&◌, not, List, [], ◌∷◌, ◌++◌, Option, Some, None, MatchOption, ℕ, zero, suc, ◌+◌, ◌*◌, ◌-◌, ◌/◌, ◌%◌, ◌≤◌, ◌<◌, eqb, leb, ltb, length, drop}
 use Rattle.wire.specs.Bytes.{pick}
-use Rattle.text.specs.declared.Number.{Number}
-use Rattle.text.specs.declared.Number.TheVariants.{Value, NoNumber}
 
 -- ---- fields
 
@@ -20,6 +18,12 @@ fields (x ∷ l) = pick (eqb x 44) ([] ∷ fields l) (onto x (fields l))
 unfoldable pub before : ℕ → List ℕ → ℕ
 before x [] = 0
 before x (y ∷ l) = pick (eqb y x) 0 (suc (before x l))
+
+-- where the first x at or after an offset stands: none where none stands up to the line's end
+abbrev pub Found : ℕ → List ℕ → ℕ → Option ℕ → Type 0
+Found x line from r =
+    let i = from + before x (drop from line) in
+    MatchOption r (i ≡ length line) (λ at. (at ≡ i) × (i < length line))
 
 -- ---- numbers read: "decimal, without sign or needless leading zero"
 
@@ -43,13 +47,13 @@ leads (d ∷ []) = true
 leads (d ∷ e ∷ ds) = not (eqb d 48)
 
 -- a number up to this one
-unfoldable pub number_of : ℕ → List ℕ → Number
+unfoldable pub number_of : ℕ → List ℕ → Option ℕ
 unfolding digits_only leads value_from
-number_of most f = pick (leads f && (digits_only f && leb (value_from 0 f) most)) (Value (value_from 0 f)) NoNumber
+number_of most f = pick (leads f && (digits_only f && leb (value_from 0 f) most)) (Some (value_from 0 f)) None
 
 -- one that is at most k
-abbrev pub Below : ℕ → Number → Type 0
-Below k n = (v : ℕ) → n ≡ Value v → v ≤ k
+abbrev pub Below : ℕ → Option ℕ → Type 0
+Below k n = (v : ℕ) → n ≡ Some v → v ≤ k
 
 -- ---- numbers written
 

@@ -1,73 +1,38 @@
 // Numbers and fields in text: decimal numbers read and written, and where a byte stands.
 #![tactic(auto)]
 
-ghost use Rattle.std.specs.Prelude.{◌≡◌, ◌+◌, ◌≤◌, ◌<◌, length, drop};
+ghost use Rattle.std.specs.Prelude.{◌≡◌, ◌+◌, ◌≤◌, length};
 ghost use Rattle.wire.specs.Bytes.{over};
-ghost use Rattle.text.specs.Text.{before, leads, number_of, digits, field};
+ghost use Rattle.text.specs.Text.{Found, number_of, digits, field};
 
-// A field read as a number.
-#[derive(Clone, Copy)]
-pub enum Number {
-    Value(u32),
-    NoNumber,
-}
-
-// Where a byte first stands at or after an offset, or the line's length.
-pub fn find(line: &[u8], from: usize, byte: u8) -> usize
+// Where a byte first stands at or after an offset.
+pub fn find(line: &[u8], from: usize, byte: u8) -> Option<usize>
     requires { from ≤ length line.now }
-    ensures { (result ≡ from + before byte (drop from line.now)) × (result ≤ length line.now) }
+    ensures { Found byte line.now from result }
 {
-    let mut i = from;
-    while i < line.len() {
-        if line[i] == byte {
-            return i;
-        }
-        i += 1;
-    }
-    i
-}
-
-fn wide(x: u8) -> u64
-    ensures { (result ≡ x) × (result < 256) }
-{
-    x as u64
-}
-
-// Whether a field begins as a number: not empty, and no needless zero first.
-fn led(s: &[u8]) -> bool
-    ensures { result ≡ leads s.now }
-{
-    if s.len() < 2 {
-        return s.len() == 1;
-    }
-    s[0] != 48
+    let at = line[from..].iter().position(|x| *x == byte)?;
+    Some(from + at)
 }
 
 // A field as a number up to `most`.
-pub fn number_of(s: &[u8], most: u32) -> Number
+pub fn number_of(s: &[u8], most: u32) -> Option<u32>
     ensures { result ≡ number_of most s.now }
 {
-    if !led(s) {
-        return Number::NoNumber;
+    // Empty, or a needless zero first.
+    if let [] | [b'0', _, ..] = s {
+        return None;
     }
-    let most = most as u64;
-    let mut v: u64 = 0;
-    let mut i = 0;
-    while i < s.len() {
-        let d = wide(s[i]);
-        if d < 48 {
-            return Number::NoNumber;
+    let mut v = 0;
+    for x in s {
+        if !x.is_ascii_digit() {
+            return None;
         }
-        if 57 < d {
-            return Number::NoNumber;
+        v = v * 10 + u64::from(*x - b'0');
+        if u64::from(most) < v {
+            return None;
         }
-        v = v * 10 + (d - 48);
-        if most < v {
-            return Number::NoNumber;
-        }
-        i += 1;
     }
-    Number::Value(v as u32)
+    Some(v as u32)
 }
 
 // Writes a number from an offset on, its last digit behind those before it, and answers the offset behind it.

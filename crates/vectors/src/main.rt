@@ -9,43 +9,47 @@
 // headed by n with L and R as for format, and ends with a line of dashes.
 #![tactic(auto)]
 
-ghost use Rattle.std.specs.Prelude.{◌<◌, ◌≤◌, length};
+ghost use Rattle.std.specs.Prelude.{◌<◌};
 
-use home::Answer;
-use image_log::Outcome;
-use index::Begun;
+use image_log::Stored;
 use records::Record;
+use refusals::Refusal;
 use std::io::{Read, Write};
 use std::rt::{Stdin, Stdout};
 
-// An answer's word, by its first letter, and its number.
-#[derive(Clone, Copy)]
-struct Told {
-    word: u8,
-    number: usize,
+type Line = [u8; 48];
+
+// What a call answers: one word and a number.
+#[derive(Clone, Copy, Debug, PartialEq, Eq)]
+enum Answer {
+    Count(usize),
+    Refused(usize),
+    Done(usize),
+    Cut(usize),
+}
+
+impl From<Refusal> for Answer {
+    fn from(refusal: Refusal) -> Answer {
+        Answer::Refused(usize::from(u8::from(refusal)))
+    }
+}
+
+impl From<Stored> for Answer {
+    fn from(stored: Stored) -> Answer {
+        match stored {
+            Stored::Done(n) => Answer::Done(n),
+            Stored::Cut(n) => Answer::Cut(n),
+        }
+    }
 }
 
 // Calls, answers as told, checksums told, checksums as told.
-#[derive(Clone, Copy)]
+#[derive(Clone, Copy, Debug, Default, PartialEq, Eq)]
 struct Tally {
     calls: usize,
     answers: usize,
     told: usize,
     sums: usize,
-}
-
-fn word(out: &mut Stdout, text: &[u8]) {
-    match out.write_all(text) {
-        Ok(_) => {},
-        Err(_) => {},
-    }
-}
-
-fn number(out: &mut Stdout, n: usize) {
-    match write!(out, "{n}") {
-        Ok(_) => {},
-        Err(_) => {},
-    }
 }
 
 // ---- checksums
@@ -58,318 +62,162 @@ fn one_bit(c: u32) -> u32 {
     }
 }
 
-fn four_bits(c: u32) -> u32 {
-    one_bit(one_bit(one_bit(one_bit(c))))
-}
-
 fn one_byte(c: u32, b: u8) -> u32 {
-    four_bits(four_bits(c ^ b as u32))
+    (0..8).fold(c ^ u32::from(b), |c, _| one_bit(c))
 }
 
 fn crc32(s: &[u8]) -> u32 {
-    let mut c: u32 = 0xffffffff;
-    let mut i = 0;
-    while i < s.len() {
-        c = one_byte(c, s[i]);
-        i += 1;
-    }
-    c ^ 0xffffffff
+    !s.iter().fold(!0, |c, &b| one_byte(c, b))
 }
 
 // ---- lines
 
-// One read; none at the end of the input, or where reading fails.
-fn read_some(input: &mut Stdin, buf: &mut [u8]) -> usize
-    ensures { result ≤ length buf.new }
-{
-    match input.read(buf) {
-        Ok(n) => n,
-        Err(_) => 0,
-    }
-}
-
-// Reads until the buffer is full or the input ends; how many bytes came.
-fn read_full(input: &mut Stdin, buf: &mut [u8]) -> usize
-    ensures { result ≤ length buf.new }
-{
-    let mut done = 0;
-    while done < buf.len() {
-        let n = read_some(input, &mut buf[done..]);
-        if n == 0 {
-            return done;
-        }
-        done += n;
-    }
-    done
-}
-
-// Reads a line; false at the end of a sequence or of the input.
-fn next_line(input: &mut Stdin, line: &mut [u8]) -> bool {
-    read_full(input, line) == 48 && byte(line, 0) != b'-'
-}
-
-fn byte(line: &[u8], at: usize) -> u8 {
-    if at < line.len() { line[at] } else { 0 }
+// The next line; none at the end of a sequence or of the input.
+fn next_line(input: &mut Stdin) -> Option<Line> {
+    let mut line = [0u8; 48];
+    input.read_exact(&mut line).ok()?;
+    if line[0] == b'-' { None } else { Some(line) }
 }
 
 fn digit(b: u8) -> u32
     ensures { result < 16 }
 {
     if b < b'a' {
-        b as u32 % 16
+        u32::from(b) % 16
     } else {
-        (b as u32 + 9) % 16
+        (u32::from(b) + 9) % 16
     }
 }
 
-// The number in the columns from `from` to before `end`.
-fn field(line: &[u8], from: usize, end: usize) -> u32 {
-    let mut v: u32 = 0;
-    let mut i = from;
-    while i < end {
-        v = v % 0x10000000 * 16 + digit(byte(line, i));
-        i += 1;
-    }
-    v
+// The number in these columns.
+fn number(columns: &[u8]) -> u32 {
+    columns
+        .iter()
+        .fold(0, |v, &b| v % 0x10000000 * 16 + digit(b))
 }
 
-fn tag(line: &[u8]) -> u32 {
-    field(line, 2, 10)
+fn tag(line: &Line) -> u32 {
+    number(&line[2..10])
 }
 
-fn second(line: &[u8]) -> u32 {
-    field(line, 14, 22)
+fn second(line: &Line) -> u32 {
+    number(&line[14..22])
 }
 
-fn record(line: &[u8]) -> Record {
+fn record(line: &Line) -> Record {
     Record {
-        level: (field(line, 11, 13) % 256) as u8,
+        level: (number(&line[11..13]) % 256) as u8,
         second: second(line),
-        phone: (field(line, 23, 27) % 65536) as u16,
-        minutes: (field(line, 28, 30) % 256) as u8,
+        phone: (number(&line[23..27]) % 65536) as u16,
+        minutes: (number(&line[28..30]) % 256) as u8,
+    }
+}
+
+// The answer that a line tells.
+fn told(line: &Line) -> Option<Answer> {
+    let n = number(&line[34..38]) as usize;
+    match line[31] {
+        b'o' => Some(Answer::Count(n)),
+        b'n' => Some(Answer::Refused(n)),
+        b'd' => Some(Answer::Done(n)),
+        b'c' => Some(Answer::Cut(n)),
+        _ => None,
+    }
+}
+
+// The checksum that a line tells; none in dashes.
+fn checksum(line: &Line) -> Option<u32> {
+    if line[39] == b'-' {
+        None
+    } else {
+        Some(number(&line[39..47]))
     }
 }
 
 // ---- calls
 
-fn of_answer(a: Answer) -> Told {
-    match a {
-        Answer::Count(n) => Told {
-            word: b'o',
-            number: n,
-        },
-        Answer::Refused(n) => Told {
-            word: b'n',
-            number: n as usize,
-        },
+// Runs a line's call.
+fn run(image: &mut [u8], space: &mut [u8], line: &Line) -> Result<Answer, Refusal> {
+    let tag = tag(line);
+    let record = record(line);
+    match line[0] {
+        b'p' => index::put(space, tag, record).map(Answer::Count),
+        b'd' => index::delete(space, tag, record).map(Answer::Count),
+        b's' => index::set_minutes(space, tag, record).map(Answer::Count),
+        b'x' => index::drop_tag(space, tag).map(Answer::Count),
+        b'b' => index::begin(image, space).map(|()| Answer::Done(0)),
+        b'f' => index::format(image, tag as usize, record.second as usize, 0, 1000000).map(
+            Answer::from,
+        ),
+        b'c' => index::commit(image, space, tag as usize).map(Answer::from),
+        _ => index::recover(image, tag as usize).map(Answer::from),
     }
 }
 
-fn of_outcome(o: Outcome) -> Told {
-    match o {
-        Outcome::Done(n) => Told {
-            word: b'd',
-            number: n,
-        },
-        Outcome::Cut(n) => Told {
-            word: b'c',
-            number: n,
-        },
-        Outcome::Refused(n) => Told {
-            word: b'n',
-            number: n as usize,
-        },
+// The bytes that a line's checksum is of: the workspace after an edit, else the image.
+fn summed<'a>(image: &'a [u8], space: &'a [u8], line: &Line) -> &'a [u8] {
+    match line[0] {
+        b'p' | b'd' | b's' | b'x' => space,
+        _ => image,
     }
-}
-
-fn of_begun(b: Begun) -> Told {
-    match b {
-        Begun::Done => Told {
-            word: b'd',
-            number: 0,
-        },
-        Begun::Refused(n) => Told {
-            word: b'n',
-            number: n as usize,
-        },
-    }
-}
-
-fn is_edit(line: &[u8]) -> bool {
-    let op = byte(line, 0);
-    op == b'p' || op == b'd' || op == b's' || op == b'x'
-}
-
-fn edit(space: &mut [u8], line: &[u8]) -> Answer {
-    let op = byte(line, 0);
-    if op == b'p' {
-        index::put(space, tag(line), record(line))
-    } else if op == b'd' {
-        index::delete(space, tag(line), record(line))
-    } else if op == b's' {
-        index::set_minutes(space, tag(line), record(line))
-    } else {
-        index::drop_tag(space, tag(line))
-    }
-}
-
-fn image_call(image: &mut [u8], space: &[u8], line: &[u8]) -> Outcome {
-    let op = byte(line, 0);
-    if op == b'f' {
-        index::format(image, tag(line) as usize, second(line) as usize, 0, 1000000)
-    } else if op == b'c' {
-        index::commit(image, space, tag(line) as usize)
-    } else {
-        index::recover(image, tag(line) as usize)
-    }
-}
-
-fn run(image: &mut [u8], space: &mut [u8], line: &[u8]) -> Told {
-    if is_edit(line) {
-        of_answer(edit(space, line))
-    } else if byte(line, 0) == b'b' {
-        of_begun(index::begin(image, space))
-    } else {
-        of_outcome(image_call(image, space, line))
-    }
-}
-
-// Runs a line's call: whether its answer is the one told.
-fn agrees(image: &mut [u8], space: &mut [u8], line: &[u8]) -> bool {
-    let t = run(image, space, line);
-    t.word == byte(line, 31) && t.number == field(line, 34, 38) as usize
 }
 
 // ---- sequences
 
-// Whether a line tells a checksum.
-fn has_sum(line: &[u8]) -> bool {
-    byte(line, 39) != b'-'
-}
-
-// Whether it does, and it is that of the bytes now.
-fn sum_agrees(image: &[u8], space: &[u8], line: &[u8]) -> bool {
-    if !has_sum(line) {
-        return false;
+// Runs a sequence, up to 10,000 calls of it, and counts.
+fn sequence(input: &mut Stdin, image: &mut [u8], space: &mut [u8]) -> Tally {
+    let mut tally = Tally::default();
+    let mut next = next_line(input);
+    for _ in 0..10000usize {
+        let Some(line) = next else {
+            break;
+        };
+        let answer = run(image, space, &line).unwrap_or_else(Answer::from);
+        tally.calls += 1;
+        tally.answers += usize::from(told(&line) == Some(answer));
+        if let Some(sum) = checksum(&line) {
+            tally.told += 1;
+            tally.sums += usize::from(crc32(summed(image, space, &line)) == sum);
+        }
+        next = next_line(input);
     }
-    if is_edit(line) {
-        crc32(space) == field(line, 39, 47)
-    } else {
-        crc32(image) == field(line, 39, 47)
-    }
+    tally
 }
 
-fn one_if(b: bool) -> usize
-    ensures { result < 2 }
-{
-    if b { 1 } else { 0 }
-}
-
-// One more where b holds, up to 10,000.
-fn add(n: usize, b: bool) -> usize {
-    if n < 10000 { n + one_if(b) } else { n }
-}
-
-// Runs a line's call and counts it.
-fn counted(t: Tally, image: &mut [u8], space: &mut [u8], line: &[u8]) -> Tally {
-    let answers = add(t.answers, agrees(image, space, line));
-    Tally {
-        calls: add(t.calls, true),
-        answers: answers,
-        told: add(t.told, has_sum(line)),
-        sums: add(t.sums, sum_agrees(image, space, line)),
-    }
-}
-
-fn report(out: &mut Stdout, t: Tally) {
-    number(out, t.calls);
-    word(out, b" calls; as in the model: ");
-    number(out, t.answers);
-    word(out, b" answers, ");
-    number(out, t.sums);
-    word(out, b" of ");
-    number(out, t.told);
-    word(out, b" checksums\n");
-}
-
-fn sequence(
-    input: &mut Stdin,
-    out: &mut Stdout,
-    image: &mut [u8],
-    space: &mut [u8],
-    line: &mut [u8],
-) {
-    let mut t = Tally {
-        calls: 0,
-        answers: 0,
-        told: 0,
-        sums: 0,
+// The sequence that a line heads, on an empty workspace and an image of zeros, if they fit 8,192 bytes each.
+fn headed(input: &mut Stdin, out: &mut Stdout, head: &Line) {
+    let capacity = tag(head) as usize % 64;
+    let pages = second(head) as usize % 64;
+    let _ = match capacity {
+        0 => write!(out, "workspace, R {pages}: "),
+        _ => write!(out, "L {capacity}, R {pages}: "),
     };
-    let mut left: usize = 10000;
-    let mut more = next_line(input, line);
-    while left > 0 && more {
-        left -= 1;
-        t = counted(t, image, space, line);
-        more = next_line(input, line);
-    }
-    report(out, t);
-}
-
-fn head(out: &mut Stdout, capacity: usize, pages: usize) {
-    if capacity == 0 {
-        word(out, b"workspace");
-    } else {
-        word(out, b"L ");
-        number(out, capacity);
-    }
-    word(out, b", R ");
-    number(out, pages);
-    word(out, b": ");
-}
-
-// The sequence that a line heads, on an empty workspace and an image of zeros.
-fn headed(input: &mut Stdin, out: &mut Stdout, line: &mut [u8]) {
+    let home = 64 * (26 + pages);
+    let length = 64 + 66 * capacity + home;
     let mut image = [0u8; 8192];
     let mut space = [0u8; 8192];
-    let capacity = tag(line) as usize % 64;
-    let pages = second(line) as usize % 64;
-    head(out, capacity, pages);
-    lend(
-        input,
+    if length > image.len() || home > space.len() {
+        return;
+    }
+    let Tally {
+        calls,
+        answers,
+        told,
+        sums,
+    } = sequence(input, &mut image[..length], &mut space[..home]);
+    let _ = writeln!(
         out,
-        &mut image,
-        &mut space,
-        line,
-        64 + 66 * capacity + 64 * (26 + pages),
-        64 * (26 + pages),
+        "{calls} calls; as in the model: {answers} answers, {sums} of {told} checksums"
     );
 }
 
-fn lend(
-    input: &mut Stdin,
-    out: &mut Stdout,
-    image: &mut [u8],
-    space: &mut [u8],
-    line: &mut [u8],
-    m: usize,
-    n: usize,
-) {
-    if m <= image.len() && n <= space.len() {
-        sequence(input, out, &mut image[0..m], &mut space[0..n], line);
-    }
-}
-
-fn sequences(input: &mut Stdin, out: &mut Stdout, line: &mut [u8]) {
-    let mut left: usize = 100;
-    let mut more = next_line(input, line);
-    while left > 0 && more {
-        left -= 1;
-        headed(input, out, line);
-        more = next_line(input, line);
-    }
-}
-
 fn main(rt: HostRuntime) {
-    let mut line = [0u8; 48];
-    sequences(&mut rt.stdin(), &mut rt.stdout(), &mut line);
+    let mut input = rt.stdin();
+    let mut out = rt.stdout();
+    for _ in 0..100 {
+        let Some(head) = next_line(&mut input) else {
+            break;
+        };
+        headed(&mut input, &mut out, &head);
+    }
 }

@@ -3,7 +3,7 @@ use Rattle.std.specs.Prelude.{◌≡◌, refl, ◌⊎◌, Bool, true, false, ◌
 use Rattle.std.proofs.Common.{sym, ap, ap₂, ◌∙◌, inl, inr, arith, add-zero, le_of_suc-le-suc, div-add-mod', add-one, append_assoc, append-nil, length-append, length-take, length-drop, drop_of_length-le, take-append-drop, get_or-take, get_or-drop, ext_get_or, drop-cons, drop-drop, take-add, take-suc, drop_at, length-take-le, eq-eqb, ne_eqb, eqb-true}
 use Rattle.std.proofs.Math.Bool.{and_assoc}
 use Rattle.std.proofs.Math.Nat.{div-div-eq-div-mul}
-use Rattle.std.proofs.lemmas.List.{length-replicate, replicate-append-replicate}
+use Rattle.std.proofs.lemmas.List.{length-replicate, replicate-append-replicate, take-replicate as take_of-replicate}
 use Rattle.std.proofs.lemmas.List.Edits.{sets, sets-eq}
 use Rattle.std.specs.Int.Bits.{bit_or, or_add_and}
 use Rattle.std.proofs.lemmas.Nat.{and_le_l, and_le_r}
@@ -384,9 +384,7 @@ fill_more l at i b =
     ∙ ap (over l at) (replicate-append-replicate i 1 b)
 
 pub take-replicate : (i n b : ℕ) → i ≤ n → take i (replicate n b) ≡ replicate i b
-take-replicate zero n b g = refl
-take-replicate (suc i) zero b g = absurd (omega arith)
-take-replicate (suc i) (suc n) b g = ap (◌∷◌ b) (take-replicate i n b (omega arith))
+take-replicate i n b g = take_of-replicate i n b g
 
 pub drop-zeros_but : (k p v n : ℕ) → drop k (zeros_but (k + p) v n) ≡ zeros_but p v (n - k)
 unfolding zeros_but
@@ -426,6 +424,17 @@ copy_down_lem l from to n i a b c =
     ∙ over_snoc l to (part l from i) (get_or l (from + i) 0)
     ∙ ap (over l to) (sym (part_snoc l from i (omega arith)))
 
+pub equal_more : (ok : Bool) (x y : ℕ) (xs ys : List ℕ) → (ok && eqb x y) && equal xs ys ≡ ok && equal (x ∷ xs) (y ∷ ys)
+unfolding equal
+equal_more ok x y xs ys = and_assoc ok (eqb x y) (equal xs ys)
+
+pub equal-nil : (ok : Bool) (xs ys : List ℕ) → length xs ≡ 0 → length ys ≡ 0 → ok && equal xs ys ≡ ok
+unfolding equal
+equal-nil ok [] [] e f = and_true ok
+equal-nil ok [] (y ∷ ys) e f = absurd (omega arith)
+equal-nil ok (x ∷ xs) ys e f = absurd (omega arith)
+
+-- the same, by offsets
 pub equal-step : (ok : Bool) (xs ys : List ℕ) (i : ℕ) → i < length xs → i < length ys
     → (ok && eqb (get_or xs i 0) (get_or ys i 0)) && equal (drop (i + 1) xs) (drop (i + 1) ys) ≡ ok && equal (drop i xs) (drop i ys)
 unfolding equal

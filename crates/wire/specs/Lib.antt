@@ -2,5 +2,3 @@ pub mod Bytes
 pub mod Cases
 pub mod BytesLaws
 pub mod All
-pub mod Rules
-pub mod RulesLaws

@@ -365,7 +365,7 @@ module _ (h : List ℕ) (t : ℕ) (bs : List ℕ) (r : Bool) (h' : List ℕ) (a 
       by : (o : Option (List Zone)) → true ≡ is_some o → h' ≡ settled (step_of h) (pages_of h) h o
           → (true ≡ is_some (or_else o (laid_in h t bs))) × (h' ≡ settled (step_of h) (pages_of h) h (or_else o (laid_in h t bs)))
       by none a q = never (sym a)
-      by (some zs) a q = (a, q)
+      by (some l) a q = (a, q)
 
   -- nothing is stored yet
   else_is : r ≡ false → (h' ≡ h) × (settled_in h t bs ≡ laid_in h t bs)
@@ -374,7 +374,7 @@ module _ (h : List ℕ) (t : ℕ) (bs : List ℕ) (r : Bool) (h' : List ℕ) (a 
     where
       by : (o : Option (List Zone)) → false ≡ is_some o → h' ≡ settled (step_of h) (pages_of h) h o → (h' ≡ h) × (or_else o (laid_in h t bs) ≡ laid_in h t bs)
       by none a q = (q, refl)
-      by (some zs) a q = never a
+      by (some l) a q = never a
 
   pub settled_able : r ≡ false → Placeable h t bs → Placeable h' t bs
   settled_able e p = subst (λ (x : List ℕ). Placeable x t bs) (sym (else_is e).0) p

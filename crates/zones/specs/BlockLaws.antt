@@ -1,4 +1,5 @@
 -- A tag's block in a sound home: found by the dictionary, and its bytes.
+use Rattle.std.specs.Prelude.{Ok}
 use Rattle.std.specs.Prelude.{◌≡◌, refl, true, List, [], ◌∷◌, ◌++◌, map, ℕ, suc, ◌+◌, ◌*◌, ◌≤◌, length, drop}
 use Rattle.std.proofs.Common.{sym, ap, ◌∙◌, subst, inl, inr, arith}
 use Rattle.wire.specs.Bytes.{part, get16, get32}
@@ -15,7 +16,6 @@ use Rattle.home.specs.HomeLaws.{ReadsAt, block_tag, block_count, block_starts}
 use Rattle.home.specs.DictionaryLaws.{Else, spots-blocks, dictionary_perm}
 use Rattle.home.specs.Sound.{sound, pages_of}
 use Rattle.home.specs.SoundLaws.{sound_words, encode-decode, sound-small, sound_loose}
-use Rattle.home.specs.declared.lookup.Slot.TheVariants.{At}
 use Rattle.home.specs.Lookup.{slot_of}
 use Rattle.home.specs.LookupLaws.{entry_in}
 use Rattle.home.specs.LookupLoopLaws.{sound_ordered, slot_at}
@@ -95,7 +95,7 @@ module _ (h : List ℕ) (s : sound h ≡ true) where
   is = sym (encode-decode h s)
 
   -- the block to which an entry leads is the first one with its tag
-  module _ (t i : ℕ) (e : slot_of h t ≡ At i) where
+  module _ (t i : ℕ) (e : slot_of h t ≡ Ok i) where
     abbrev p : ℕ
     p = entry_cell h i
 

@@ -1,5 +1,7 @@
 -- What the code that places from a class up knows at its places.
-use Rattle.std.specs.Prelude.{◌≡◌, true, false}
+use Rattle.std.specs.Prelude.{◌≡◌, true, false, Some, None}
+use Rattle.std.specs.Bool.{then_some}
+use Rattle.std.specs.declared.option.Option.{Option as Maybe}
 use Rattle.std.proofs.Math.Path.{refl, ap₂, subst}
 use Rattle.std.proofs.Common.{sym, ap, ◌∙◌, arith, add-one}
 use Rattle.std.proofs.Math.Option.{Option, none, some, map, get_or}
@@ -11,12 +13,10 @@ use Rattle.layout.specs.Capacities.{cells, class_of}
 use Rattle.layout.specs.CapacitiesLaws.{cells_mono, class_below as class-most, class_holds}
 use Rattle.layout.specs.Cases.{Holds}
 use Rattle.home.specs.Bytes.{cell_at, first_at, many_at, end_at}
-use Rattle.seats.specs.declared.Room.{Room}
-use Rattle.seats.specs.declared.Room.TheVariants.{At, Nowhere}
-use Rattle.seats.specs.Seat.{cell_for, end_from, room_of, Stacked, Seatable, seated}
+use Rattle.seats.specs.Seat.{cell_for, end_from, Stacked, Seatable, seated}
 use Rattle.seats.specs.UntouchedLaws.{Untouched, untouched_ordered, untouched_both, untouched_area}
 use Rattle.seats.specs.StackLaws.{stacked_on, raised_inside, raised_untouched}
-use Rattle.seats.specs.SeatCode.{Answers, clash}
+use Rattle.seats.specs.SeatCode.{Answers}
 use Rattle.zones.specs.Place.{whole_block, RoomAt, with_block, placed_from, From}
 
 -- the list's class k, the end of the zones below it, and its zone's first cell and block count
@@ -75,23 +75,21 @@ module _ (step : ℕ) (h : List ℕ) (c e : ℕ) (bs : List ℕ) (k end f n : �
     placed_is = placed_with step h c e t bs k end f n a.class a.carried a.first a.many
 
     -- what the call for a cell answers
-    module _ (r : Room) (h' : List ℕ) (s : Answers step h k f n end r h') where
-      pub placing-none : r ≡ Nowhere → (false ≡ is_some (placed_from step h c e t bs)) × (h' ≡ get_or (placed_from step h c e t bs) h)
-      unfolding room_of
+    module _ (r : Maybe ℕ) (h' : List ℕ) (s : Answers step h k f n end r h') where
+      pub placing-none : r ≡ None → (false ≡ is_some (placed_from step h c e t bs)) × (h' ≡ get_or (placed_from step h c e t bs) h)
       placing-none z = rw placed_is (by o (sym z ∙ s.room) s.bytes)
         where
-          by : (x : Option (List ℕ)) → Nowhere ≡ room_of (is_some x) p → h' ≡ get_or x h
+          by : (x : Option (List ℕ)) → None ≡ then_some (is_some x) p → h' ≡ get_or x h
               → (false ≡ is_some (map (λ (y : List ℕ). with_block step y k p t bs) x)) × (h' ≡ get_or (map (λ (y : List ℕ). with_block step y k p t bs) x) h)
           by none u v = (refl, v)
-          by (some x) u v = clash p (sym u)
+          by (some x) u v = cc
 
-      pub placing_puts : (q : ℕ) → r ≡ At q → RoomAt step h' k q t bs × (true ≡ is_some (placed_from step h c e t bs)) × (with_block step h' k q t bs ≡ get_or (placed_from step h c e t bs) h)
-      unfolding room_of
+      pub placing_puts : (q : ℕ) → r ≡ Some q → RoomAt step h' k q t bs × (true ≡ is_some (placed_from step h c e t bs)) × (with_block step h' k q t bs ≡ get_or (placed_from step h c e t bs) h)
       placing_puts q z = rw placed_is (by o (sym z ∙ s.room) s.bytes left inside)
         where
-          by : (x : Option (List ℕ)) → At q ≡ room_of (is_some x) p → h' ≡ get_or x h → Holds (Untouched 0 h) x → Holds (λ (y : List ℕ). cell_at (p + cells step k) ≤ length h) x
+          by : (x : Option (List ℕ)) → Some q ≡ then_some (is_some x) p → h' ≡ get_or x h → Holds (Untouched 0 h) x → Holds (λ (y : List ℕ). cell_at (p + cells step k) ≤ length h) x
               → RoomAt step h' k q t bs × (true ≡ is_some (map (λ (y : List ℕ). with_block step y k p t bs) x)) × (with_block step h' k q t bs ≡ get_or (map (λ (y : List ℕ). with_block step y k p t bs) x) h)
-          by none u v w i = clash q u
+          by none u v w i = cc
           by (some x) u v w i =
               let j : q ≡ p = cc in
               let b : List ℕ = over h' (cell_at q) (whole_block step k t bs) in

@@ -27,7 +27,8 @@ use Rattle.moves.specs.Moves.{Movable, zoned, moved, unentered}
 use Rattle.moves.specs.SpotLaws.{spot}
 use Rattle.moves.specs.HomeLaws.{movable_without}
 use Rattle.moves.specs.Stored.{end_after, Stored}
-use Rattle.seats.specs.Seat.{end_from}
+use Rattle.seats.specs.Seat.{first_with, end_from}
+use Rattle.seats.specs.SeatLaws.{first-none as seated_none, first_some as seated_some}
 use Rattle.seats.specs.LayoutLaws.{stored_ends}
 use Rattle.moves.specs.AtLaws.{take_here, take_next, drop-next, zone_here, end_next}
 use Rattle.moves.specs.Close.{zone_of, closed_bytes, Open}
@@ -102,6 +103,12 @@ pub first_some : (f n : ℕ) → 0 < n → first_if f n ≡ f
 unfolding first_if
 first_some f zero g = absurd (omega arith)
 first_some f (suc n) g = refl
+
+-- it is what the code that seats a block sets, with 0 for a zone that is empty now
+pub first_is : (f n : ℕ) → first_with n f 0 ≡ first_if f n
+unfolding first_if
+first_is f zero = seated_none 0 f 0 refl
+first_is f (suc n) = seated_some (suc n) f 0 (λ e. absurd (omega (arith, e)))
 
 -- a zone ends in the area
 zone_inside : (step n c e f : ℕ) (bs : List Block) (hs : List Zone) → 0 < length bs → Fit step n c e (zone f bs ∷ hs) → f + length bs * cells step c ≤ n

@@ -21,10 +21,8 @@ pub fn total(home: &[u8], step: usize) -> usize
     ensures { (result ≡ total_of (size_of step) 0 (decode home.now)) × (result ≤ 8192) }
 {
     let mut sum = 0;
-    let mut c = 0;
-    while c < 30 {
+    for c in 0..30 {
         sum += zone_count(home, c) * cells(step, c);
-        c += 1;
     }
     sum
 }
@@ -35,13 +33,11 @@ fn lay_below(home: &mut [u8], step: usize, c: usize) -> usize
     ensures value { (result ≡ total_of (size_of step) 0 (take c (decode home.old))) × (result ≤ 8192) }
     ensures home_after { home.new ≡ encode step (pages_of home.old) (lower_laid step (decode home.old) c) }
 {
-    let mut d = 0;
     let mut e = 0;
-    while d < c {
+    for d in 0..c {
         let n = zone_count(home, d);
         slide(home, step, d, e);
         e += n * cells(step, d);
-        d += 1;
     }
     e
 }
@@ -90,8 +86,5 @@ pub fn settle(home: &mut [u8], tag: u32, list: &[u8]) -> bool
     requires { Placeable home.old tag list.now }
     ensures { (result ≡ is_some (settled_in home.old tag list.now)) × (home.new ≡ settled (step_of home.old) (pages_of home.old) home.old (settled_in home.old tag list.now)) }
 {
-    if place(home, tag, list) {
-        return true;
-    }
-    lay_afresh(home, tag, list)
+    place(home, tag, list) || lay_afresh(home, tag, list)
 }

@@ -12,7 +12,7 @@ use home::AREA;
 use home::lookup::{step_of, zone_count, zone_first};
 use layout::classes::{cells, class_of};
 use moves::{insert_entry, set_zone};
-use seats::{Room, end_from, first_with, seat};
+use seats::{end_from, first_with, seat};
 
 // Writes a whole block of class c at cell p: its header, its list, and zeros to its end.
 fn write_block(home: &mut [u8], step: usize, c: usize, p: usize, tag: u32, list: &[u8])
@@ -53,7 +53,7 @@ pub fn place_from(home: &mut [u8], step: usize, c: usize, end: usize, tag: u32, 
     let e = end_from(home, step, c, end, k);
     let f = zone_first(home, k);
     let n = zone_count(home, k);
-    let Room::At(p) = seat(home, step, k, f, n, e) else {
+    let Some(p) = seat(home, step, k, f, n, e) else {
         return false;
     };
     put_block(home, step, k, p, tag, list);

@@ -5,21 +5,14 @@ ghost use Rattle.layout.specs.Zones.{take_out};
 ghost use Rattle.home.specs.Bytes.{cell_at, encode, decode};
 ghost use Rattle.home.specs.Sound.{pages_of};
 ghost use Rattle.moves.specs.Moves.{Movable};
-ghost use Rattle.zones.specs.Known.{Known, first_if, filled, out_bytes};
+ghost use Rattle.zones.specs.Known.{Known, filled, out_bytes};
 
 use home::AREA;
 use home::lookup::{zone_count, zone_first};
 use layout::classes::cells;
 use moves::close::close_up;
 use moves::{move_block, remove_entry, set_zone};
-use seats::end_from;
-
-// The first cell of a zone from this cell on with so many blocks: an empty one has 0.
-fn first_if(first: usize, count: usize) -> usize
-    ensures { result ≡ first_if first count }
-{
-    if count == 0 { 0 } else { first }
-}
+use seats::{end_from, first_with};
 
 // The place of a block of class c that is taken out: the zone's last block fills it, or it becomes zero if it is that one.
 fn fill_place(home: &mut [u8], step: usize, c: usize, last: usize, p: usize)
@@ -43,7 +36,7 @@ fn remove_block(home: &mut [u8], step: usize, tag: u32, c: usize, p: usize)
     let n = zone_count(home, c) - 1;
     remove_entry(home, tag);
     fill_place(home, step, c, f + n * cells(step, c), p);
-    set_zone(home, c, first_if(f, n), n);
+    set_zone(home, c, first_with(n, f, 0), n);
 }
 
 // Takes the tag's block of class c at cell p out, and closes up.

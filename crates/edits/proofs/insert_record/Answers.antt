@@ -1,8 +1,7 @@
-use Rattle.std.proofs.Common.{◌≡◌, ◌≢◌, ◌+◌, ◌<◌, ◌≤◌, ◌∙◌, ℕ, Bool, List, arith, ap, ap₂, sym, subst}
+use Rattle.std.proofs.Common.{Err, ◌≡◌, ◌≢◌, ◌+◌, ◌<◌, ◌≤◌, ◌∙◌, ℕ, Bool, List, arith, ap, ap₂, sym, subst}
 use Rattle.records.specs.declared.Record.{Record}
 use Rattle.layout.specs.Capacities.{class_of, capacity}
 use Rattle.layout.specs.CapacitiesLaws.{class_below, class_stays, class_leaves}
-use Rattle.home.specs.declared.Answer.TheVariants.{Refused}
 use Rattle.home.specs.Bytes.{step_of}
 use Rattle.home.specs.SoundLaws.{sound_long}
 use Rattle.moves.specs.LooseLaws.{sound-stored}
@@ -25,10 +24,10 @@ room : {h : List ℕ} {t p n j s c d : ℕ} {r : Record} {b : Bool} → Missing 
     → fits_after (step_of h) h (class_of (step_of h) n) (class_of (step_of h) (n + 1)) ≡ b
 room {h = h} {n = n} {s = s} {b = b} m e c d f = subst (λ (x : ℕ). fits_after x h (class_of x n) (class_of x (n + 1)) ≡ b) e (sym (f ∙ ap₂ (fits_after s h) c d))
 
-pub returns-then-n-limit : goal.returns-then-n-limit
-returns-then-n-limit c =
+pub returns-then-block-limit : goal.returns-then-block-limit
+returns-then-block-limit c =
     let e = put_full _ _ _ _ _ _ c.requires c.args.by (omega arith) in
-    record { value = ap Refused c.full.ensures ∙ e.0; home_after = e.1 }
+    record { value = ap Err c.full.ensures ∙ e.0; home_after = e.1 }
 
 pub step_of-step-requires : goal.step_of-step-requires
 step_of-step-requires c = omega (arith, sound_long _ c.requires.listed.sound)
@@ -40,19 +39,13 @@ pub capacity-requires : goal.capacity-requires
 capacity-requires c = rw c.class_of-c.ensures (class_below _ _ (listed_most _ _ _ _ c.requires.listed))
 
 pub insert_here-requires : goal.insert_here-requires
-insert_here-requires c = (missing_under _ _ _ _ _ _ c.requires, in_inside _ _ _ _ _ _ c.requires (omega (arith, limit_low c.args.by)) (keeps c.requires (omega (arith, limit_low c.args.by)) c.step_of-step.ensures c.class_of-c.ensures c.capacity.ensures.0 c.if-n-capacity.true))
+insert_here-requires c = (missing_under _ _ _ _ _ _ c.requires, in_inside _ _ _ _ _ _ c.requires (omega (arith, limit_low c.args.by)) (keeps c.requires (omega (arith, limit_low c.args.by)) c.step_of-step.ensures c.class_of-c.ensures c.capacity.ensures.0 c.if-block-capacity.true))
 
-pub overflow_add-result : goal.overflow_add-result
-overflow_add-result c = omega (arith, listed_most _ _ _ _ c.requires.listed)
-
-pub returns-then-n-capacity : goal.returns-then-n-capacity
-returns-then-n-capacity c =
-    let k = keeps c.requires (omega (arith, limit_low c.args.by)) c.step_of-step.ensures c.class_of-c.ensures c.capacity.ensures.0 c.if-n-capacity.true in
+pub returns-then-block-capacity : goal.returns-then-block-capacity
+returns-then-block-capacity c =
+    let k = keeps c.requires (omega (arith, limit_low c.args.by)) c.step_of-step.ensures c.class_of-c.ensures c.capacity.ensures.0 c.if-block-capacity.true in
     let d = put_done _ _ _ _ _ _ c.requires c.args.by (omega arith) (put_keeps _ _ _ _ _ _ c.requires k) in
     record { value = d.0; home_after = c.insert_here.ensures ∙ in_here _ _ _ _ _ _ c.requires (omega (arith, limit_low c.args.by)) k ∙ d.1 }
-
-pub overflow_add-n : goal.overflow_add-n
-overflow_add-n c = omega (arith, limit_low c.args.by)
 
 pub class_of-requires : goal.class_of-requires
 class_of-requires c = omega (arith, limit_low c.args.by)
@@ -71,14 +64,11 @@ returns-then-not-room_after c =
 
 pub insert_moving-requires : goal.insert_moving-requires
 insert_moving-requires c =
-    let s : c.args.n < 989 = omega (arith, limit_low c.args.by) in
+    let s : c.args.block.count < 989 = omega (arith, limit_low c.args.by) in
     record {
-      missing = (c.requires, s, leaves c.requires s c.step_of-step.ensures c.class_of-c.ensures c.capacity.ensures.0 c.if-n-capacity.false, omega arith);
+      missing = (c.requires, s, leaves c.requires s c.step_of-step.ensures c.class_of-c.ensures c.capacity.ensures.0 c.if-block-capacity.false, omega arith);
       home_value = sym (put_room _ _ _ _ _ _ c.requires s) ∙ room c.requires c.step_of-step.ensures c.class_of-c.ensures c.class_of.ensures c.room_after.ensures ∙ c.if-not-room_after.false;
     }
-
-pub overflow_add-result-2 : goal.overflow_add-result-2
-overflow_add-result-2 c = omega (arith, listed_most _ _ _ _ c.requires.listed)
 
 pub returns : goal.returns
 returns c =

@@ -4,6 +4,7 @@ use Prim.Native.Nat.{ℕ, ◌+◌, ◌*◌}
 use Rattle.redo.specs.Image.{home_at}
 use Rattle.redo.specs.ImageLaws.{head_right}
 use Rattle.redo.specs.StoresLaws.{commit_none}
+use Rattle.refusals.specs.declared.Refusal.TheVariants.{SpaceLength, LogShort}
 use Rattle.image_log.specs.Calls.{store, changed_pages}
 use Rattle.image_log.specs.Answers.{refused_is, nothing_is, other_length, many-pages, few_pages_is, changed_is}
 use lib.ListN.{length}
@@ -15,7 +16,7 @@ get16-pages-requires c = let r = head_right c.args.image.now c.requires.0 in ome
 pub returns-then-space-pages : goal.returns-then-space-pages
 returns-then-space-pages c =
     let a = c.args in
-    let x = refused_is _ 6 a.n a.image.now (other_length a.image.now a.space.now c.requires.0 c.requires.1 (λ e. c.if-space-pages.true (e ∙ ap (λ (j : ℕ). 64 * (26 + j)) (sym c.get16-pages.ensures.value)))) in
+    let x = refused_is _ SpaceLength a.n a.image.now (other_length a.image.now a.space.now c.requires.0 c.requires.1 (λ e. c.if-space-pages.true (e ∙ ap (λ (j : ℕ). 64 * (26 + j)) (sym c.get16-pages.ensures.value)))) in
     record { value = x.0; image_after = x.1 }
 
 pub get16-capacity-requires : goal.get16-capacity-requires
@@ -29,7 +30,7 @@ returns-then-capacity-k c =
     let a = c.args in
     let l = a.image.now in
     let k = c.count_changed-k.ensures ∙ ap length (changed_is l a.space.now _ _ c.get16-capacity.ensures.value c.get16-pages.ensures.value) in
-    let x = refused_is _ 13 a.n l (many-pages l a.space.now c.requires.0 c.requires.1 (omega arith) (omega arith)) in
+    let x = refused_is _ LogShort a.n l (many-pages l a.space.now c.requires.0 c.requires.1 (omega arith) (omega arith)) in
     record { value = x.0; image_after = x.1 }
 
 pub returns-then-k-eq0 : goal.returns-then-k-eq0

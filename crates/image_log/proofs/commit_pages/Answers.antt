@@ -1,4 +1,3 @@
-use mathlib.Core.Path.{◌∙◌}
 use Rattle.image_log.specs.Answers.{commit_answer}
 use Rattle.image_log.proofs.commit_pages.Goals as goal
 
@@ -7,4 +6,4 @@ returns c =
     let a = c.args in
     let p = c.requires in
     let x = commit_answer a.image.now a.home a.space.now a.pages a.k p.0 p.1 c.commit-end.ensures in
-    record { value = c.report.ensures ∙ x.0; image_after = x.1 }
+    record { value = rw c.report.ensures x.0; image_after = x.1 }

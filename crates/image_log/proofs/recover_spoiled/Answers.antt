@@ -1,4 +1,3 @@
-use mathlib.Core.Path.{◌∙◌}
 use native.Mathlib.Omega.{arith}
 use Rattle.redo.specs.ImageLaws.{head_right}
 use Rattle.image_log.specs.Answers.{cleared_is}
@@ -10,4 +9,4 @@ write_at-made-requires c = let r = head_right c.args.image.now c.requires in ome
 pub returns : goal.returns
 returns c =
     let x = cleared_is c.write_at-made.ensures in
-    record { value = c.report.ensures ∙ x.0; image_after = x.1 }
+    record { value = rw c.report.ensures x.0; image_after = x.1 }

@@ -1,14 +1,16 @@
-use mathlib.Core.Path.{sym, ◌∙◌}
-use Rattle.index.specs.CommitLaws.{commit_refused}
-use Rattle.gates.specs.GatesLaws.{gate_open, gate_refused}
+use mathlib.Core.Path.{sym}
+use Rattle.std.proofs.lemmas.Result.{err_from_is_err_and}
 use Rattle.image_log.specs.Answers.{refused_is}
+use Rattle.gates.specs.GatesLaws.{gate_open, gate_refused, image_open}
+use Rattle.index.specs.CommitLaws.{commit_refused}
 use Rattle.index.proofs.commit.Goals as goal
 
-pub commit_open-requires : goal.commit_open-requires
-commit_open-requires c = gate_open _ (sym c.gate.ensures ∙ c.in-Open.is)
-
-pub returns-in-Refused : goal.returns-in-Refused
-returns-in-Refused c =
+pub returns-in_err-gate : goal.returns-in_err-gate
+returns-in_err-gate c =
     let a = c.args in
-    let r = refused_is _ _ a.n a.image.now (commit_refused a.image.now a.space.now _ (gate_refused _ _ (sym c.gate.ensures ∙ c.in-Refused.is))) in
-    record { value = r.0; image_after = r.1 }
+    let p = err_from_is_err_and c.from_residual.result c.from_residual.ensures.1 in
+    let x = refused_is _ _ a.n a.image.now (commit_refused a.image.now a.space.now _ (gate_refused _ _ (sym c.in_err-gate.ensures))) in
+    record { value = rw (p.1, p.2) x.0; image_after = x.1 }
+
+pub commit_clear-requires : goal.commit_clear-requires
+commit_clear-requires c = let o = image_open _ (gate_open _ (sym c.in_ok-gate.ensures)) in (o.head, o.clear)

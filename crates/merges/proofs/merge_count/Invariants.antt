@@ -1,10 +1,13 @@
-use Prim.Native.Nat.{◌+◌, ◌-◌, ◌/◌}
+use mathlib.Core.Path.{◌≡◌}
+use Prim.Native.Nat.{◌+◌}
 use lib.ListN.{length}
-use Rattle.merges.specs.LoopLaws.{Count}
+use Rattle.records.specs.Records.{decode}
+use Rattle.merges.specs.Merging.{merge}
+use Rattle.merges.specs.LoopLaws.{left}
 use Rattle.merges.proofs.merge_count.Given as goal
 
-abbrev pub invariant-loop-m : goal.invariant-loop-m
-invariant-loop-m l = Count l.m l.a l.b l.i l.j l.k
+abbrev pub invariant-loop-k : goal.invariant-loop-k
+invariant-loop-k l = l.k + length (left l.m l.lists.first.now l.lists.second.now) ≡ length (merge l.m (decode l.a) (decode l.b))
 
-abbrev pub decreases-loop-m : goal.decreases-loop-m
-decreases-loop-m l = length l.a / 8 + length l.b / 8 - (l.i + l.j)
+abbrev pub decreases-loop-k : goal.decreases-loop-k
+decreases-loop-k l = length (left l.m l.lists.first.now l.lists.second.now)

@@ -1,11 +1,17 @@
 use mathlib.Core.Path.{◌≡◌}
-use Prim.Native.Nat.{◌+◌, ◌-◌, ◌/◌}
+use Prim.Native.Nat.{◌+◌}
 use lib.ListN.{length}
-use Rattle.merges.specs.LoopLaws.{Count, Written}
+use Rattle.records.specs.Records.{decode}
+use Rattle.merges.specs.Merging.{merge}
+use Rattle.merges.specs.LoopLaws.{left, Completes}
 use Rattle.merges.proofs.merge_into.Given as goal
 
-abbrev pub invariant-loop-m : goal.invariant-loop-m
-invariant-loop-m l = Count l.m l.a l.b l.i l.j l.k × Written l.m l.a l.b l.initial.out l.i l.j l.k l.out × (length l.out ≡ length l.initial.out)
+abbrev pub invariant-loop-r : goal.invariant-loop-r
+invariant-loop-r l = record {
+  count : l.k + length (left l.m l.lists.first.now l.lists.second.now) ≡ length (merge l.m (decode l.a) (decode l.b));
+  written : Completes l.initial.out l.out l.k (left l.m l.lists.first.now l.lists.second.now) (merge l.m (decode l.a) (decode l.b));
+  same : length l.out ≡ length l.initial.out;
+}
 
-abbrev pub decreases-loop-m : goal.decreases-loop-m
-decreases-loop-m l = length l.a / 8 + length l.b / 8 - (l.i + l.j)
+abbrev pub decreases-loop-r : goal.decreases-loop-r
+decreases-loop-r l = length (left l.m l.lists.first.now l.lists.second.now)

@@ -1,48 +1,133 @@
-use native.Mathlib.Omega.{arith}
-use mathlib.Core.Path.{◌≡◌, ◌∙◌}
-use mathlib.Core.List.{List}
-use Prim.Native.Nat.{ℕ, ◌+◌, ◌<◌}
-use lib.ListN.{length, drop}
-use Rattle.text.specs.Text.{before}
-use Rattle.parse.specs.ParseLaws.{Counted, count_next, bad_long, bad_few, bad_many, good}
+use Rattle.std.proofs.Common.{◌∙◌, arith, rules, sym}
+use borrow.Author.Tests.{tests}
+use Rattle.std.proofs.lemmas.Fn.{always_returns_same}
+use Rattle.text.specs.ReadLaws.{number_at_most}
+use Rattle.parse.specs.Grammar.{built, command_of}
+use Rattle.parse.specs.ParseLaws.{bad_long, bad, good_command, wrong, not_six, taken_none, taken_more, taken_all, no_more, one_beyond}
 use Rattle.parse.proofs.parse.Goals as goal
 
--- the fields counted behind each comma
-counted_1 : (s : List ℕ) (a : ℕ) → a ≡ 0 + before 44 (drop 0 s) → a < length s → Counted s 1 (a + 1)
-counted_1 s a ea la = count_next s 0 0 a (omega arith) ea la
+pub returns-then-line-gt80 : goal.returns-then-line-gt80
+returns-then-line-gt80 c = bad_long _ (omega arith)
 
-counted_2 : (s : List ℕ) (a b : ℕ) → a ≡ 0 + before 44 (drop 0 s) → a < length s → b ≡ a + 1 + before 44 (drop (a + 1) s) → b < length s → Counted s 2 (b + 1)
-counted_2 s a b ea la eb lb = count_next s 1 (a + 1) b (counted_1 s a ea la) eb lb
+pub returns-in_err-word : goal.returns-in_err-word
+unfolding built
+returns-in_err-word c =
+    let t1 = taken_more c.next.new.self c.in_ok-next.field-0 c.in_ok-next.ensures.steps (taken_none c.args.line.now c.split-fields.result c.split-fields.ensures.rest c.split-fields.ensures.done (always_returns_same _ _ _ (λ a r q k. search (rules, tests)))) in
+    c.from_residual-in_err-word.ensures ∙ bad c.args.line.now (omega arith) (wrong _ (rw (t1.all, ← c.in_err-word.ensures)))
 
-counted_3 : (s : List ℕ) (a b c : ℕ) → a ≡ 0 + before 44 (drop 0 s) → a < length s → b ≡ a + 1 + before 44 (drop (a + 1) s) → b < length s → c ≡ b + 1 + before 44 (drop (b + 1) s) → c < length s → Counted s 3 (c + 1)
-counted_3 s a b c ea la eb lb ec lc = count_next s 2 (b + 1) c (counted_2 s a b ea la eb lb) ec lc
+pub returns-in_err-next-2 : goal.returns-in_err-next-2
+unfolding command_of
+returns-in_err-next-2 c =
+    let t1 = taken_more c.next.new.self c.in_ok-next.field-0 c.in_ok-next.ensures.steps (taken_none c.args.line.now c.split-fields.result c.split-fields.ensures.rest c.split-fields.ensures.done (always_returns_same _ _ _ (λ a r q k. search (rules, tests)))) in
+    c.from_residual-in_err-next-2.ensures ∙ bad c.args.line.now (omega arith) (rw (taken_all c.next-2.new.self t1 c.in_err-next-2.ensures.steps))
 
-counted_4 : (s : List ℕ) (a b c d : ℕ) → a ≡ 0 + before 44 (drop 0 s) → a < length s → b ≡ a + 1 + before 44 (drop (a + 1) s) → b < length s → c ≡ b + 1 + before 44 (drop (b + 1) s) → c < length s → d ≡ c + 1 + before 44 (drop (c + 1) s) → d < length s → Counted s 4 (d + 1)
-counted_4 s a b c d ea la eb lb ec lc ed ld = count_next s 3 (c + 1) d (counted_3 s a b c ea la eb lb ec lc) ed ld
+pub returns-in_err-tag : goal.returns-in_err-tag
+unfolding built
+returns-in_err-tag c =
+    let t1 = taken_more c.next.new.self c.in_ok-next.field-0 c.in_ok-next.ensures.steps (taken_none c.args.line.now c.split-fields.result c.split-fields.ensures.rest c.split-fields.ensures.done (always_returns_same _ _ _ (λ a r q k. search (rules, tests)))) in
+    let t2 = taken_more c.next-2.new.self c.in_ok-next-2.field-0 c.in_ok-next-2.ensures.steps t1 in
+    c.from_residual-in_err-tag.ensures ∙ bad c.args.line.now (omega arith) (wrong _ (rw (t2.all, ← c.in_ok-word.ensures, ← c.in_err-tag.ensures)))
 
-counted_5 : (s : List ℕ) (a b c d e : ℕ) → a ≡ 0 + before 44 (drop 0 s) → a < length s → b ≡ a + 1 + before 44 (drop (a + 1) s) → b < length s → c ≡ b + 1 + before 44 (drop (b + 1) s) → c < length s → d ≡ c + 1 + before 44 (drop (c + 1) s) → d < length s → e ≡ d + 1 + before 44 (drop (d + 1) s) → e < length s → Counted s 5 (e + 1)
-counted_5 s a b c d e ea la eb lb ec lc ed ld ee le = count_next s 4 (d + 1) e (counted_4 s a b c d ea la eb lb ec lc ed ld) ee le
+pub returns-in_err-next-3 : goal.returns-in_err-next-3
+unfolding command_of
+returns-in_err-next-3 c =
+    let t1 = taken_more c.next.new.self c.in_ok-next.field-0 c.in_ok-next.ensures.steps (taken_none c.args.line.now c.split-fields.result c.split-fields.ensures.rest c.split-fields.ensures.done (always_returns_same _ _ _ (λ a r q k. search (rules, tests)))) in
+    let t2 = taken_more c.next-2.new.self c.in_ok-next-2.field-0 c.in_ok-next-2.ensures.steps t1 in
+    c.from_residual-in_err-next-3.ensures ∙ bad c.args.line.now (omega arith) (rw (taken_all c.next-3.new.self t2 c.in_err-next-3.ensures.steps))
 
-pub returns-then-n-gt80 : goal.returns-then-n-gt80
-returns-then-n-gt80 c = bad_long _ (omega arith)
+pub returns-in_err-level : goal.returns-in_err-level
+unfolding built
+returns-in_err-level c =
+    let t1 = taken_more c.next.new.self c.in_ok-next.field-0 c.in_ok-next.ensures.steps (taken_none c.args.line.now c.split-fields.result c.split-fields.ensures.rest c.split-fields.ensures.done (always_returns_same _ _ _ (λ a r q k. search (rules, tests)))) in
+    let t2 = taken_more c.next-2.new.self c.in_ok-next-2.field-0 c.in_ok-next-2.ensures.steps t1 in
+    let t3 = taken_more c.next-3.new.self c.in_ok-next-3.field-0 c.in_ok-next-3.ensures.steps t2 in
+    c.from_residual-in_err-level.ensures ∙ bad c.args.line.now (omega arith) (wrong _ (rw (t3.all, ← c.in_ok-word.ensures, ← c.in_ok-tag.ensures, ← c.in_err-level.ensures)))
 
-pub returns-then-n-a : goal.returns-then-n-a
-returns-then-n-a c = bad_few _ 0 0 _ (omega arith) (omega arith) (omega arith) (omega arith) c.find-a.ensures.0 (omega arith)
+pub returns-in_err-next-4 : goal.returns-in_err-next-4
+unfolding command_of
+returns-in_err-next-4 c =
+    let t1 = taken_more c.next.new.self c.in_ok-next.field-0 c.in_ok-next.ensures.steps (taken_none c.args.line.now c.split-fields.result c.split-fields.ensures.rest c.split-fields.ensures.done (always_returns_same _ _ _ (λ a r q k. search (rules, tests)))) in
+    let t2 = taken_more c.next-2.new.self c.in_ok-next-2.field-0 c.in_ok-next-2.ensures.steps t1 in
+    let t3 = taken_more c.next-3.new.self c.in_ok-next-3.field-0 c.in_ok-next-3.ensures.steps t2 in
+    c.from_residual-in_err-next-4.ensures ∙ bad c.args.line.now (omega arith) (rw (taken_all c.next-4.new.self t3 c.in_err-next-4.ensures.steps))
 
-pub returns-then-n-b : goal.returns-then-n-b
-returns-then-n-b c = bad_few _ 1 _ _ (omega arith) (counted_1 _ _ c.find-a.ensures.0 (omega arith)) (omega arith) (omega arith) c.find-b.ensures.0 (omega arith)
+pub returns-in_err-second : goal.returns-in_err-second
+unfolding built
+returns-in_err-second c =
+    let t1 = taken_more c.next.new.self c.in_ok-next.field-0 c.in_ok-next.ensures.steps (taken_none c.args.line.now c.split-fields.result c.split-fields.ensures.rest c.split-fields.ensures.done (always_returns_same _ _ _ (λ a r q k. search (rules, tests)))) in
+    let t2 = taken_more c.next-2.new.self c.in_ok-next-2.field-0 c.in_ok-next-2.ensures.steps t1 in
+    let t3 = taken_more c.next-3.new.self c.in_ok-next-3.field-0 c.in_ok-next-3.ensures.steps t2 in
+    let t4 = taken_more c.next-4.new.self c.in_ok-next-4.field-0 c.in_ok-next-4.ensures.steps t3 in
+    c.from_residual-in_err-second.ensures ∙ bad c.args.line.now (omega arith) (wrong _ (rw (t4.all, ← c.in_ok-word.ensures, ← c.in_ok-tag.ensures, ← c.in_ok-level.ensures, ← c.in_err-second.ensures)))
 
-pub returns-then-n-c : goal.returns-then-n-c
-returns-then-n-c c = bad_few _ 2 _ _ (omega arith) (counted_2 _ _ _ c.find-a.ensures.0 (omega arith) c.find-b.ensures.0 (omega arith)) (omega arith) (omega arith) c.find-c.ensures.0 (omega arith)
+pub returns-in_err-next-5 : goal.returns-in_err-next-5
+unfolding command_of
+returns-in_err-next-5 c =
+    let t1 = taken_more c.next.new.self c.in_ok-next.field-0 c.in_ok-next.ensures.steps (taken_none c.args.line.now c.split-fields.result c.split-fields.ensures.rest c.split-fields.ensures.done (always_returns_same _ _ _ (λ a r q k. search (rules, tests)))) in
+    let t2 = taken_more c.next-2.new.self c.in_ok-next-2.field-0 c.in_ok-next-2.ensures.steps t1 in
+    let t3 = taken_more c.next-3.new.self c.in_ok-next-3.field-0 c.in_ok-next-3.ensures.steps t2 in
+    let t4 = taken_more c.next-4.new.self c.in_ok-next-4.field-0 c.in_ok-next-4.ensures.steps t3 in
+    c.from_residual-in_err-next-5.ensures ∙ bad c.args.line.now (omega arith) (rw (taken_all c.next-5.new.self t4 c.in_err-next-5.ensures.steps))
 
-pub returns-then-n-d : goal.returns-then-n-d
-returns-then-n-d c = bad_few _ 3 _ _ (omega arith) (counted_3 _ _ _ _ c.find-a.ensures.0 (omega arith) c.find-b.ensures.0 (omega arith) c.find-c.ensures.0 (omega arith)) (omega arith) (omega arith) c.find-d.ensures.0 (omega arith)
+pub returns-in_err-phone : goal.returns-in_err-phone
+unfolding built
+returns-in_err-phone c =
+    let t1 = taken_more c.next.new.self c.in_ok-next.field-0 c.in_ok-next.ensures.steps (taken_none c.args.line.now c.split-fields.result c.split-fields.ensures.rest c.split-fields.ensures.done (always_returns_same _ _ _ (λ a r q k. search (rules, tests)))) in
+    let t2 = taken_more c.next-2.new.self c.in_ok-next-2.field-0 c.in_ok-next-2.ensures.steps t1 in
+    let t3 = taken_more c.next-3.new.self c.in_ok-next-3.field-0 c.in_ok-next-3.ensures.steps t2 in
+    let t4 = taken_more c.next-4.new.self c.in_ok-next-4.field-0 c.in_ok-next-4.ensures.steps t3 in
+    let t5 = taken_more c.next-5.new.self c.in_ok-next-5.field-0 c.in_ok-next-5.ensures.steps t4 in
+    c.from_residual-in_err-phone.ensures ∙ bad c.args.line.now (omega arith) (wrong _ (rw (t5.all, ← c.in_ok-word.ensures, ← c.in_ok-tag.ensures, ← c.in_ok-level.ensures, ← c.in_ok-second.ensures, ← c.in_err-phone.ensures)))
 
-pub returns-then-n-e : goal.returns-then-n-e
-returns-then-n-e c = bad_few _ 4 _ _ (omega arith) (counted_4 _ _ _ _ _ c.find-a.ensures.0 (omega arith) c.find-b.ensures.0 (omega arith) c.find-c.ensures.0 (omega arith) c.find-d.ensures.0 (omega arith)) (omega arith) (omega arith) c.find-e.ensures.0 (omega arith)
+pub returns-in_err-next-6 : goal.returns-in_err-next-6
+unfolding command_of
+returns-in_err-next-6 c =
+    let t1 = taken_more c.next.new.self c.in_ok-next.field-0 c.in_ok-next.ensures.steps (taken_none c.args.line.now c.split-fields.result c.split-fields.ensures.rest c.split-fields.ensures.done (always_returns_same _ _ _ (λ a r q k. search (rules, tests)))) in
+    let t2 = taken_more c.next-2.new.self c.in_ok-next-2.field-0 c.in_ok-next-2.ensures.steps t1 in
+    let t3 = taken_more c.next-3.new.self c.in_ok-next-3.field-0 c.in_ok-next-3.ensures.steps t2 in
+    let t4 = taken_more c.next-4.new.self c.in_ok-next-4.field-0 c.in_ok-next-4.ensures.steps t3 in
+    let t5 = taken_more c.next-5.new.self c.in_ok-next-5.field-0 c.in_ok-next-5.ensures.steps t4 in
+    c.from_residual-in_err-next-6.ensures ∙ bad c.args.line.now (omega arith) (rw (taken_all c.next-6.new.self t5 c.in_err-next-6.ensures.steps))
 
-pub returns-then-find-n : goal.returns-then-find-n
-returns-then-find-n c = bad_many _ (c.find.result + 1) (omega arith) (count_next _ 5 _ _ (counted_5 _ _ _ _ _ _ c.find-a.ensures.0 (omega arith) c.find-b.ensures.0 (omega arith) c.find-c.ensures.0 (omega arith) c.find-d.ensures.0 (omega arith) c.find-e.ensures.0 (omega arith)) c.find.ensures.0 (omega arith))
+pub returns-in_err-minutes : goal.returns-in_err-minutes
+unfolding built
+returns-in_err-minutes c =
+    let t1 = taken_more c.next.new.self c.in_ok-next.field-0 c.in_ok-next.ensures.steps (taken_none c.args.line.now c.split-fields.result c.split-fields.ensures.rest c.split-fields.ensures.done (always_returns_same _ _ _ (λ a r q k. search (rules, tests)))) in
+    let t2 = taken_more c.next-2.new.self c.in_ok-next-2.field-0 c.in_ok-next-2.ensures.steps t1 in
+    let t3 = taken_more c.next-3.new.self c.in_ok-next-3.field-0 c.in_ok-next-3.ensures.steps t2 in
+    let t4 = taken_more c.next-4.new.self c.in_ok-next-4.field-0 c.in_ok-next-4.ensures.steps t3 in
+    let t5 = taken_more c.next-5.new.self c.in_ok-next-5.field-0 c.in_ok-next-5.ensures.steps t4 in
+    let t6 = taken_more c.next-6.new.self c.in_ok-next-6.field-0 c.in_ok-next-6.ensures.steps t5 in
+    c.from_residual-in_err-minutes.ensures ∙ bad c.args.line.now (omega arith) (wrong _ (rw (t6.all, ← c.in_ok-word.ensures, ← c.in_ok-tag.ensures, ← c.in_ok-level.ensures, ← c.in_ok-second.ensures, ← c.in_ok-phone.ensures, ← c.in_err-minutes.ensures)))
+
+pub returns-then-is_some : goal.returns-then-is_some
+returns-then-is_some c =
+    let t1 = taken_more c.next.new.self c.in_ok-next.field-0 c.in_ok-next.ensures.steps (taken_none c.args.line.now c.split-fields.result c.split-fields.ensures.rest c.split-fields.ensures.done (always_returns_same _ _ _ (λ a r q k. search (rules, tests)))) in
+    let t2 = taken_more c.next-2.new.self c.in_ok-next-2.field-0 c.in_ok-next-2.ensures.steps t1 in
+    let t3 = taken_more c.next-3.new.self c.in_ok-next-3.field-0 c.in_ok-next-3.ensures.steps t2 in
+    let t4 = taken_more c.next-4.new.self c.in_ok-next-4.field-0 c.in_ok-next-4.ensures.steps t3 in
+    let t5 = taken_more c.next-5.new.self c.in_ok-next-5.field-0 c.in_ok-next-5.ensures.steps t4 in
+    let t6 = taken_more c.next-6.new.self c.in_ok-next-6.field-0 c.in_ok-next-6.ensures.steps t5 in
+    let m = one_beyond c.next-7.new.self c.next-7.result c.next-7.ensures.steps t6 (sym c.if-is_some.ensures) in
+    bad c.args.line.now (omega arith) (not_six _ (λ e. omega arith))
 
 pub returns : goal.returns
-returns c = c.at_commas.ensures ∙ good _ _ _ _ _ _ _ (omega arith) (omega arith) (omega arith) c.find-a.ensures.0 c.find-b.ensures.0 c.find-c.ensures.0 c.find-d.ensures.0 c.find-e.ensures.0 c.find.ensures.0
+unfolding built command_of
+returns c =
+    let t1 = taken_more c.next.new.self c.in_ok-next.field-0 c.in_ok-next.ensures.steps (taken_none c.args.line.now c.split-fields.result c.split-fields.ensures.rest c.split-fields.ensures.done (always_returns_same _ _ _ (λ a r q k. search (rules, tests)))) in
+    let t2 = taken_more c.next-2.new.self c.in_ok-next-2.field-0 c.in_ok-next-2.ensures.steps t1 in
+    let t3 = taken_more c.next-3.new.self c.in_ok-next-3.field-0 c.in_ok-next-3.ensures.steps t2 in
+    let t4 = taken_more c.next-4.new.self c.in_ok-next-4.field-0 c.in_ok-next-4.ensures.steps t3 in
+    let t5 = taken_more c.next-5.new.self c.in_ok-next-5.field-0 c.in_ok-next-5.ensures.steps t4 in
+    let t6 = taken_more c.next-6.new.self c.in_ok-next-6.field-0 c.in_ok-next-6.ensures.steps t5 in
+    let e = no_more c.next-7.new.self c.next-7.result c.next-7.ensures.steps t6 (sym c.if-is_some.ensures) in
+    good_command c.args.line.now _ (omega arith) (rw (e, ← c.in_ok-word.ensures, ← c.in_ok-tag.ensures, ← c.in_ok-level.ensures, ← c.in_ok-second.ensures, ← c.in_ok-phone.ensures, ← c.in_ok-minutes.ensures))
+
+pub overflow_cast-call : goal.overflow_cast-call
+overflow_cast-call c = record { fits = omega (arith, rw (← c.in_ok-level.ensures) at (number_at_most 255 c.in_ok-next-3.field-0.now)) }
+
+pub overflow_cast-call-2 : goal.overflow_cast-call-2
+overflow_cast-call-2 c = record { fits = omega (arith, rw (← c.in_ok-phone.ensures) at (number_at_most 65535 c.in_ok-next-5.field-0.now)) }
+
+pub overflow_cast-call-3 : goal.overflow_cast-call-3
+overflow_cast-call-3 c = record { fits = omega (arith, rw (← c.in_ok-minutes.ensures) at (number_at_most 255 c.in_ok-next-6.field-0.now)) }

@@ -1,11 +1,8 @@
 use native.Mathlib.Omega.{arith}
 use Prim.Native.Nat.{◌/◌}
 use lib.ListN.{length}
-use Rattle.print.specs.PrintLaws.{head_long, record_long, listed_start, listed_turn, listed_end}
+use Rattle.print.specs.PrintLaws.{head_long, record_long, listed_turn, listed_end}
 use Rattle.print.proofs.put_list.Goals as goal
-
-pub loop-i-init : goal.loop-i-init
-loop-i-init c = listed_start _ _ _
 
 pub put_record-at-requires : goal.put_record-at-requires
 put_record-at-requires c = omega (arith, c.put_head-at.ensures.1, head_long c.args.tag (length c.args.list.now / 8) (omega arith) (omega arith))

@@ -1,33 +1,35 @@
-use mathlib.Core.Path.{refl, sym, ◌∙◌}
+use mathlib.Core.Bool.{Bool, ◌&&◌}
+use mathlib.Core.List.{[]}
+use mathlib.Core.Path.{sym, ap, ◌∙◌}
 use native.Mathlib.Omega.{arith}
-use Rattle.records.specs.LoopLaws.{rising_few, rising-first, rising_turns, rising_two_end, rising-one_end}
+use Prim.Native.Nat.{◌+◌}
+use Rattle.std.proofs.Math.Bool.{and_assoc}
+use Rattle.wire.specs.Cases.{and_true}
+use Rattle.records.specs.Records.{key}
+use Rattle.records.specs.Cells.{cell_behind}
+use Rattle.records.specs.LoopLaws.{rising_few, rising-start, rising-past, rising_end}
 use Rattle.records.proofs.rising.Goals as goal
 
-pub returns-then-n-lt2 : goal.returns-then-n-lt2
-returns-then-n-lt2 c = sym (rising_few c.args.s.now (omega arith))
+pub returns-in_default : goal.returns-in_default
+returns-in_default c = let e = c.in_default.ensures in sym (rising_few c.args.s.now (omega (arith, c.cells.ensures.len)))
 
-pub loop-i-init : goal.loop-i-init
-loop-i-init c = (omega arith, omega arith, refl, rising-first c.args.s.now c.whole_at-x.result c.whole_at-y.result (omega arith) c.whole_at-x.ensures c.whole_at-y.ensures)
+pub loop-cell-init : goal.loop-cell-init
+loop-cell-init c =
+    let e = c.in-Some.ensures in
+    let f = c.cells.ensures in
+    rising-start c.args.s.now _ (omega arith) (c.key_in-last.ensures.value ∙ ap key (rw e.cases.0 at (f.each 0 [] (omega arith))))
 
-pub loop-i-preserved : goal.loop-i-preserved
-loop-i-preserved c =
-    let l = c.loop-i in
-    let x = c.greatest in
-    let y = c.greatest-in-loop-i in
-    let a = c.whole_at-next in
-    let b = c.whole_at-y-in-loop-i in
-    (omega arith, omega arith, refl, rising_turns l.ok c.args.s.now l.x x.result l.y y.result a.result b.result l.i (omega arith) x.ensures y.ensures a.ensures b.ensures ∙ l.invariant.3)
-
-pub returns-then-i-n : goal.returns-then-i-n
-returns-then-i-n c =
-    let l = c.loop-i in
-    let x = c.greatest-then-i-n in
-    let y = c.greatest-then-i-n-2 in
-    let a = c.whole_at in
-    rising_two_end l.ok c.args.s.now l.x x.result l.y y.result a.result l.i (omega arith) (omega arith) x.ensures y.ensures a.ensures ∙ l.invariant.3
+pub loop-cell-preserved : goal.loop-cell-preserved
+loop-cell-preserved c =
+    let e = c.in-Some.ensures in
+    let f = c.cells.ensures in
+    let l = c.loop-cell in
+    let r = cell_behind _ _ _ _ l.cell-index [] f e.cases.0 (omega arith) in
+    and_assoc l.ok _ _ ∙ ap (λ (b : Bool). l.ok && b) (rising-past c.args.s.now l.last c.key_in-next.result (l.cell-index + 1) (omega arith) (c.key_in-next.ensures.value ∙ ap key r)) ∙ l.invariant
 
 pub returns : goal.returns
 returns c =
-    let l = c.loop-i in
-    let x = c.greatest-2 in
-    rising-one_end l.ok c.args.s.now l.x x.result l.y l.i (omega arith) x.ensures ∙ l.invariant.3
+    let e = c.in-Some.ensures in
+    let f = c.cells.ensures in
+    let l = c.loop-cell in
+    sym (and_true l.ok) ∙ sym (ap (λ (b : Bool). l.ok && b) (rising_end c.args.s.now (l.last + 1) (l.cell-index + 1) (omega arith))) ∙ l.invariant

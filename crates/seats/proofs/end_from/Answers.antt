@@ -1,9 +1,5 @@
-use mathlib.Core.Path.{refl}
 use Rattle.seats.specs.SeatLaws.{pass_next, pass_done}
 use Rattle.seats.proofs.end_from.Goals as goal
-
-pub loop-d-init : goal.loop-d-init
-loop-d-init c = record { class = c.requires.0; same = refl }
 
 pub loop-d-preserved : goal.loop-d-preserved
 loop-d-preserved c = pass_next _ _ _ _ _ _ _ _ c.loop-d.invariant c.loop-d-test.true c.zone_end-end.ensures

@@ -23,8 +23,8 @@ returns-then-not-coded c =
     let a = c.args in
     checked_gap a.step a.home.now a.n c.requires.1 c.requires.2 c.requires.0 (search rules) (sym c.coded.ensures ∙ c.if-not-coded.true) ∙ checked_is a.home.now (λ i. omega (arith, c.type_inv.home i))
 
-pub zones_fine-requires : goal.zones_fine-requires
-zones_fine-requires c = let l = (t_sized c.args.home.now).says c.requires.0 in omega arith
+pub invariant_of-test : goal.invariant_of-test
+invariant_of-test c = let l = (t_sized c.args.home.now).says c.requires.0 in record { inside = omega arith }
 
 pub returns-then-not-zones_fine : goal.returns-then-not-zones_fine
 returns-then-not-zones_fine c =
@@ -32,15 +32,15 @@ returns-then-not-zones_fine c =
     checked-zones a.step a.home.now a.n c.requires.1 c.requires.2 c.requires.0 (search rules) (sym c.coded.ensures ∙ c.if-not-coded.false) (sym c.zones_fine.ensures ∙ c.if-not-zones_fine.true)
     ∙ checked_is a.home.now (λ i. omega (arith, c.type_inv.home i))
 
-pub entries_fine-requires : goal.entries_fine-requires
-entries_fine-requires c =
+pub tags_fine-requires : goal.tags_fine-requires
+tags_fine-requires c =
     let l = (t_sized c.args.home.now).says c.requires.0 in
-    (omega arith, omega arith, (both _ _ (sym c.zones_fine.ensures ∙ c.if-not-zones_fine.false)).0)
+    (omega arith, (both _ _ (sym c.zones_fine.ensures ∙ c.if-not-zones_fine.false)).0)
 
-pub returns-then-not-entries_fine : goal.returns-then-not-entries_fine
-returns-then-not-entries_fine c =
+pub returns-then-not-tags_fine : goal.returns-then-not-tags_fine
+returns-then-not-tags_fine c =
     let a = c.args in
-    checked-tags a.step a.home.now a.n c.requires.1 c.requires.2 c.requires.0 (search rules) (sym c.coded.ensures ∙ c.if-not-coded.false) (sym c.zones_fine.ensures ∙ c.if-not-zones_fine.false) (sym c.entries_fine.ensures ∙ c.if-not-entries_fine.true)
+    checked-tags a.step a.home.now a.n c.requires.1 c.requires.2 c.requires.0 (search rules) (sym c.coded.ensures ∙ c.if-not-coded.false) (sym c.zones_fine.ensures ∙ c.if-not-zones_fine.false) (sym c.tags_fine.ensures ∙ c.if-not-tags_fine.true)
     ∙ checked_is a.home.now (λ i. omega (arith, c.type_inv.home i))
 
 pub zeros-requires : goal.zeros-requires
@@ -50,5 +50,5 @@ pub returns : goal.returns
 returns c =
     let a = c.args in
     c.zeros.ensures
-    ∙ checked-rest a.step a.home.now a.n c.requires.1 c.requires.2 c.requires.0 (search rules) (sym c.coded.ensures ∙ c.if-not-coded.false) (sym c.zones_fine.ensures ∙ c.if-not-zones_fine.false) (sym c.entries_fine.ensures ∙ c.if-not-entries_fine.false)
+    ∙ checked-rest a.step a.home.now a.n c.requires.1 c.requires.2 c.requires.0 (search rules) (sym c.coded.ensures ∙ c.if-not-coded.false) (sym c.zones_fine.ensures ∙ c.if-not-zones_fine.false) (sym c.tags_fine.ensures ∙ c.if-not-tags_fine.false)
     ∙ checked_is a.home.now (λ i. omega (arith, c.type_inv.home i))

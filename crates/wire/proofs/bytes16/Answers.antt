@@ -1,4 +1,4 @@
-use mathlib.Core.Path.{refl}
+use Rattle.std.proofs.Common.{refl}
 use Rattle.wire.specs.Bytes.{bytes16}
 use Rattle.wire.proofs.bytes16.Goals as goal
 

@@ -1,17 +1,15 @@
-use mathlib.Core.Path.{◌≡◌, refl, sym}
-use native.Mathlib.Omega.{arith}
-use lib.ListN.{length-set}
-use Rattle.wire.specs.BytesLaws.{over-nil, fill_more}
+use Rattle.std.proofs.Common.{◌≡◌, ◌+◌, ◌∙◌, sym, arith, ext_get_or, ℕ, length, length-take, length-drop}
+use Rattle.std.proofs.Math.ListN.{replicate}
+use Rattle.std.proofs.lemmas.List.{length-replicate, get_or-replicate}
+use Rattle.wire.proofs.Part.{put-over}
 use Rattle.wire.proofs.fill.Goals as goal
 
-pub loop-i-init : goal.loop-i-init
-loop-i-init c = (omega arith, sym (over-nil _ _), refl)
-
-pub loop-i-preserved : goal.loop-i-preserved
-loop-i-preserved c =
-    let l = c.loop-i in
-    let a = c.args in
-    (omega arith, rw l.invariant.1 (fill_more a.s.now a.at l.i a.b), simp length-set (omega arith))
-
 pub returns : goal.returns
-returns c = let e : c.loop-i.i ≡ c.args.n = omega arith in rw (← e) c.loop-i.invariant.1
+returns c =
+    let a = c.args in
+    let l = c.loop-x in
+    let long = length-replicate a.n a.b in
+    let d : length l.x-items ≡ a.n = omega (arith, l.auto.x-items, length-take {A = ℕ}, length-drop {A = ℕ}) in
+    let e : l.x-items ≡ replicate a.n a.b =
+    ext_get_or 0 l.x-items (replicate a.n a.b) (d ∙ sym long) (λ k h. l.invariant k (omega arith) ∙ sym (get_or-replicate a.n k a.b 0 (omega arith))) in
+    rw e (put-over a.at (a.at + a.n) a.s.now (replicate a.n a.b) (omega arith) (omega arith))

@@ -1,11 +1,6 @@
-use native.Mathlib.Omega.{arith}
 use Rattle.wire.specs.Bytes.{get16}
 use Rattle.wire.proofs.get16.Goals as goal
 
-pub returns : goal.returns
+pub returns-clause-value : goal.returns-clause-value
 unfolding get16
-returns c =
-    record {
-      value = cc;
-      upper_bound = omega arith;
-    }
+returns-clause-value c = cc

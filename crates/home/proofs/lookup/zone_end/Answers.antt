@@ -6,11 +6,5 @@ use Rattle.home.proofs.lookup.zone_end.Goals as goal
 pub returns-then-n-eq0 : goal.returns-then-n-eq0
 returns-then-n-eq0 c = end_empty _ _ _ _ _ c.zone_count-n.ensures.0 c.if-n-eq0.true
 
-pub overflow_mul-result : goal.overflow_mul-result
-overflow_mul-result c = omega (arith, zone-fits c.zone_count-n.result c.cells.result (search rules) (search rules))
-
-pub overflow_add-result : goal.overflow_add-result
-overflow_add-result c = omega (arith, zone-fits c.zone_count-n.result c.cells.result (search rules) (search rules))
-
 pub returns : goal.returns
 returns c = end_full _ _ _ _ _ _ _ c.zone_first.ensures.0 c.zone_count-n.ensures.0 c.cells.ensures.0 c.if-n-eq0.false

@@ -24,8 +24,8 @@ take_out-requires c = rw (c.class_of-c.ensures, c.step_of-step.ensures) (listed_
 pub under-requires : goal.under-requires
 under-requires c = rw c.class_of-c.ensures (class_below _ _ (listed_most _ _ _ _ c.requires.listed))
 
-pub overflow_sub-n : goal.overflow_sub-n
-overflow_sub-n c = listed-some _ _ _ _ c.requires.listed
+pub overflow_sub-block : goal.overflow_sub-block
+overflow_sub-block c = listed-some _ _ _ _ c.requires.listed
 
 pub remove_here-requires : goal.remove_here-requires
 remove_here-requires c = (ranked-under _ _ _ _ _ c.requires, listed_inside _ _ _ _ c.requires.listed)
@@ -33,14 +33,14 @@ remove_here-requires c = (ranked-under _ _ _ _ _ c.requires, listed_inside _ _ _
 pub remove_moving-requires : goal.remove_moving-requires
 remove_moving-requires c =
     let r = c.requires in
-    let several = more_than_one _ _ _ _ r.listed c.if-n-eq1.false in
-    (r, several, rw c.step_of-step.ensures at (class_lost _ _ _ several c.class_of-c.ensures (omega (arith, c.if-under-n.false, c.under.ensures))), omega (arith, listed_most _ _ _ _ r.listed))
+    let several = more_than_one _ _ _ _ r.listed c.if-block-eq1.false in
+    (r, several, rw c.step_of-step.ensures at (class_lost _ _ _ several c.class_of-c.ensures (omega (arith, c.if-under-block.false, c.under.ensures))), omega (arith, listed_most _ _ _ _ r.listed))
 
-pub returns-then-n-eq1 : goal.returns-then-n-eq1
-returns-then-n-eq1 c = (rw c.step_of-step.ensures at c.take_out.ensures) ∙ out_last _ _ _ _ _ c.requires c.if-n-eq1.true
+pub returns-then-block-eq1 : goal.returns-then-block-eq1
+returns-then-block-eq1 c = (rw c.step_of-step.ensures at c.take_out.ensures) ∙ out_last _ _ _ _ _ c.requires c.if-block-eq1.true
 
-pub returns-then-under-n : goal.returns-then-under-n
-returns-then-under-n c =
+pub returns-then-under-block : goal.returns-then-under-block
+returns-then-under-block c =
     let r = c.requires in
-    let several = more_than_one _ _ _ _ r.listed c.if-n-eq1.false in
-    c.remove_here.ensures ∙ out_here _ _ _ _ _ r several (rw c.step_of-step.ensures at (class_kept _ _ _ several (listed_most _ _ _ _ r.listed) c.class_of-c.ensures (omega (arith, c.if-under-n.true, c.under.ensures))))
+    let several = more_than_one _ _ _ _ r.listed c.if-block-eq1.false in
+    c.remove_here.ensures ∙ out_here _ _ _ _ _ r several (rw c.step_of-step.ensures at (class_kept _ _ _ several (listed_most _ _ _ _ r.listed) c.class_of-c.ensures (omega (arith, c.if-under-block.true, c.under.ensures))))

@@ -14,7 +14,7 @@ unfolding inserted_here relisted
 returns c =
     let a = c.args in
     let h : List ℕ = a.home.now in
-    let came = c.insert.ensures ∙ inserted-lent h a.p a.n a.j a.r (omega arith) (omega arith) in
-    let put = put-over (list_at a.p) (list_at a.p + 8 * (a.n + 1)) h (grown h a.p a.n a.j a.r)
-    (omega (arith, length-grown h a.p a.n a.j a.r (omega arith) (omega arith))) (omega arith) in
-    c.put16.ensures ∙ rw came (ap (λ (x : List ℕ). over x (cell_at a.p + 4) (bytes16 (a.n + 1))) put)
+    let came = (rw c.records.ensures at c.insert.ensures) ∙ inserted-lent h a.block.cell a.block.count a.j a.r (omega arith) (omega arith) in
+    let put = put-over (list_at a.block.cell) (list_at a.block.cell + 8 * (a.block.count + 1)) h (grown h a.block.cell a.block.count a.j a.r)
+    (omega (arith, length-grown h a.block.cell a.block.count a.j a.r (omega arith) (omega arith))) (omega arith) in
+    c.put16.ensures ∙ rw (came, c.records.ensures) (ap (λ (x : List ℕ). over x (cell_at a.block.cell + 4) (bytes16 (a.block.count + 1))) put)

@@ -15,8 +15,8 @@ unfolding removed_here relisted
 returns c =
     let a = c.args in
     let h : List ℕ = a.home.now in
-    let l : List ℕ = shrunk h a.p a.n a.j in
-    let came = c.remove.ensures ∙ removed-lent h a.p a.n a.j (omega arith) (omega arith) in
-    let put = put-over (list_at a.p) (list_at a.p + 8 * a.n) h (l ++ replicate 8 0)
-    (omega (arith, length-append l (replicate 8 0), length-shrunk h a.p a.n a.j (omega arith) (omega arith))) (omega arith) in
-    c.put16.ensures ∙ rw came (ap (λ (x : List ℕ). over x (cell_at a.p + 4) (bytes16 (a.n - 1))) put)
+    let l : List ℕ = shrunk h a.block.cell a.block.count a.j in
+    let came = (rw c.records.ensures at c.remove.ensures) ∙ removed-lent h a.block.cell a.block.count a.j (omega arith) (omega arith) in
+    let put = put-over (list_at a.block.cell) (list_at a.block.cell + 8 * a.block.count) h (l ++ replicate 8 0)
+    (omega (arith, length-append l (replicate 8 0), length-shrunk h a.block.cell a.block.count a.j (omega arith) (omega arith))) (omega arith) in
+    c.put16.ensures ∙ rw (came, c.records.ensures) (ap (λ (x : List ℕ). over x (cell_at a.block.cell + 4) (bytes16 (a.block.count - 1))) put)

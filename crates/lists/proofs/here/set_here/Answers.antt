@@ -16,8 +16,8 @@ unfolding set_here
 returns c =
     let a = c.args in
     let h : List ℕ = a.home.now in
-    let l : List ℕ = part h (list_at a.p) (8 * a.n) in
-    let came = c.set_minutes.ensures ∙ ap (λ (x : List ℕ). amended x a.j a.minutes) (part_of h (list_at a.p) (8 * a.n)) in
-    rw came
-    (put-over (list_at a.p) (list_at a.p + 8 * a.n) h (amended l a.j a.minutes)
-    (omega (arith, length-amended l a.j a.minutes, length_part h (list_at a.p) (8 * a.n) (omega arith))) (omega arith))
+    let l : List ℕ = part h (list_at a.block.cell) (8 * a.block.count) in
+    let came = (rw c.records.ensures at c.set_minutes.ensures) ∙ ap (λ (x : List ℕ). amended x a.j a.minutes) (part_of h (list_at a.block.cell) (8 * a.block.count)) in
+    rw (came, c.records.ensures)
+    (put-over (list_at a.block.cell) (list_at a.block.cell + 8 * a.block.count) h (amended l a.j a.minutes)
+    (omega (arith, length-amended l a.j a.minutes, length_part h (list_at a.block.cell) (8 * a.block.count) (omega arith))) (omega arith))

@@ -4,7 +4,7 @@ use Rattle.lists.specs.ListedLaws.{part-records}
 use Rattle.lists.proofs.read.search_at.Goals as goal
 
 pub search-requires : goal.search-requires
-search-requires c = rw (part-records _ _ _ c.requires.0) c.requires.1
+search-requires c = rw (c.records.ensures, part-records _ _ _ c.requires.0) c.requires.1
 
 pub returns : goal.returns
-returns c = c.search.ensures ∙ ap (ranked_in c.args.key) (part-records _ _ _ c.requires.0)
+returns c = (rw c.records.ensures at c.search.ensures) ∙ ap (ranked_in c.args.key) (part-records _ _ _ c.requires.0)

@@ -1,11 +1,5 @@
-use mathlib.Core.Path.{◌≡◌}
-use Prim.Native.Nat.{◌-◌}
-use lib.ListN.{length}
 use Rattle.moves.specs.CloseCode.{Closing}
 use Rattle.moves.proofs.close.close_up.Given as goal
 
 abbrev pub invariant-loop-d : goal.invariant-loop-d
-invariant-loop-d l = Closing l.step l.initial.home l.home l.c l.e l.d l.end × (length l.home ≡ length l.initial.home)
-
-abbrev pub decreases-loop-d : goal.decreases-loop-d
-decreases-loop-d l = 30 - l.d
+invariant-loop-d l = Closing l.step l.initial.home l.home l.c l.e l.d l.end

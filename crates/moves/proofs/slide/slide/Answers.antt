@@ -15,8 +15,5 @@ zone_first-f-requires c = (c.requires.class, omega (arith, slides_long _ _ _ _ _
 pub returns-then-f-to : goal.returns-then-f-to
 returns-then-f-to c = slide_stays _ _ _ _ _ _ c.requires (λ d. sym c.zone_first-f.ensures.0 ∙ c.if-f-to.true)
 
-pub slide_down-requires : goal.slide_down-requires
-slide_down-requires c = (record { slides = c.requires; first = c.zone_first-f.ensures.0; many = c.zone_count-n.ensures.0; some = c.if-n-eq0.false }, omega (arith, c.if-to-f.true))
-
-pub slide_up-requires : goal.slide_up-requires
-slide_up-requires c = (record { slides = c.requires; first = c.zone_first-f.ensures.0; many = c.zone_count-n.ensures.0; some = c.if-n-eq0.false }, omega (arith, c.if-to-f.false))
+pub slide_blocks-requires : goal.slide_blocks-requires
+slide_blocks-requires c = record { slides = c.requires; first = c.zone_first-f.ensures.0; many = c.zone_count-n.ensures.0; some = c.if-n-eq0.false }

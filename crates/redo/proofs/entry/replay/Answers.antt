@@ -10,22 +10,20 @@ use Rattle.redo.proofs.entry.replay.Goals as goal
 
 pub loop-j-init : goal.loop-j-init
 unfolding replay
-loop-j-init c = (omega arith, refl, rw sub-zero c.requires.1, rw (entries_none, sub-zero) (stage_none _ _ _))
+loop-j-init c = (rw sub-zero c.requires.1, rw (entries_none, sub-zero) (stage_none _ _ _))
 
-pub replay_one-page-requires : goal.replay_one-page-requires
-replay_one-page-requires c =
+pub replay_one-made-requires : goal.replay_one-made-requires
+replay_one-made-requires c =
     let a = c.args in
     let l = c.loop-j in
-    let first = all_head (rw (entries-first a.image.now l.j a.k (omega arith)) at l.invariant.2) in
-    let same = replayed_entry a.home l.j (entries a.image.now 0 l.j) l.invariant.3 (omega arith) in
+    let first = all_head (rw (entries-first a.image.now l.j a.k (omega arith)) at l.invariant.0) in
+    let same = replayed_entry a.home l.j (entries a.image.now 0 l.j) l.invariant.1 (omega arith) in
     (omega arith, rw same (omega (arith, first)))
 
 pub loop-j-preserved : goal.loop-j-preserved
 loop-j-preserved c =
     let a = c.args in
     let l = c.loop-j in (
-      omega arith,
-      omega arith,
-      all_tail (rw (entries-first a.image.now l.j a.k (omega arith)) at l.invariant.2),
-      replayed_more a.home l.j (omega arith) l.invariant.3 (stage_next a.left l.made refl c.replay_one-page.ensures),
+      all_tail (rw (entries-first a.image.now l.j a.k (omega arith)) at l.invariant.0),
+      replayed_more a.home l.j (omega arith) l.invariant.1 (stage_next a.left l.made refl c.replay_one-made.ensures),
     )

@@ -1,4 +1,3 @@
-use mathlib.Core.Path.{◌≡◌}
 use Prim.Native.Nat.{◌+◌, ◌*◌, ◌-◌, ◌≤◌}
 use lib.ListN.{length}
 use Rattle.wire.specs.All.{All}
@@ -7,7 +6,4 @@ use Rattle.redo.specs.Stage.{Makes}
 use Rattle.redo.proofs.entry.replay.Given as goal
 
 abbrev pub invariant-loop-j : goal.invariant-loop-j
-invariant-loop-j l = (l.j ≤ l.k) × (length l.image ≡ length l.initial.image) × All (λ e. l.home + 64 * e.page + 64 ≤ length l.initial.image) (entries l.initial.image l.j (l.k - l.j)) × Makes l.left (replay l.home (entries l.initial.image 0 l.j)) l.initial.image l.made l.image
-
-abbrev pub decreases-loop-j : goal.decreases-loop-j
-decreases-loop-j l = l.k - l.j
+invariant-loop-j l = All (λ e. l.home + 64 * e.page + 64 ≤ length l.initial.image) (entries l.initial.image l.j (l.k - l.j)) × Makes l.left (replay l.home (entries l.initial.image 0 l.j)) l.initial.image l.made l.image

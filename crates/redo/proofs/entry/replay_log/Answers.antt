@@ -9,4 +9,4 @@ returns-then-left-eq0 c = rw sub-zero (stage_stopped _ _ _ _ c.if-left-eq0.true)
 
 pub returns : goal.returns
 unfolding recover_stores clear_mark
-returns c = stage_more c.replay-a.ensures (stage_next c.args.left c.replay-a.result refl c.write_at-b.ensures)
+returns c = stage_more c.replay-made.ensures (stage_next c.args.left c.replay-made.result refl c.write_at.ensures)

@@ -5,4 +5,4 @@ use Rattle.redo.proofs.entry.write_log.Goals as goal
 
 pub returns : goal.returns
 unfolding log_stores
-returns c = stage_more c.log_pages-a.ensures (stage_next c.args.left c.log_pages-a.result refl (rw c.requires.2 at c.mark_log-b.ensures))
+returns c = stage_more c.log_pages-made.ensures (stage_next c.args.left c.log_pages-made.result refl (rw c.requires.2 at c.mark_log.ensures))

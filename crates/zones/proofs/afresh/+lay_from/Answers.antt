@@ -1,6 +1,6 @@
 use Rattle.std.proofs.Common.{arith}
 use Rattle.moves.specs.LooseLaws.{stored_long}
-use Rattle.zones.specs.AfreshCode.{from_end, from_small, down_slides, down-next, down_done, up_next, up_slides, up_done}
+use Rattle.zones.specs.AfreshCode.{from_end, down_slides, down-next, down_done, up_next, up_slides, up_done}
 use Rattle.zones.proofs.afresh.+lay_from.Goals as goal
 
 pub returns-then-c-eq30 : goal.returns-then-c-eq30
@@ -9,32 +9,17 @@ returns-then-c-eq30 t c = from_end _ _ _ _ c.requires c.if-c-eq30.true
 pub zone_count-requires : goal.zone_count-requires
 zone_count-requires t c = (omega (arith, c.requires.class), omega (arith, stored_long _ _ c.requires.stored))
 
-pub cells-requires : goal.cells-requires
-cells-requires t c = omega (arith, c.requires.class)
-
-pub overflow_mul-next : goal.overflow_mul-next
-overflow_mul-next t c = omega (arith, from_small _ _ _ _ c.requires c.if-c-eq30.false _ 0 _ c.zone_count.ensures.0 c.cells.ensures.0)
-
-pub overflow_add-next : goal.overflow_add-next
-overflow_add-next t c = omega (arith, from_small _ _ _ _ c.requires c.if-c-eq30.false _ 0 _ c.zone_count.ensures.0 c.cells.ensures.0)
-
 pub zone_first-requires : goal.zone_first-requires
 zone_first-requires t c = (omega (arith, c.requires.class), omega (arith, stored_long _ _ c.requires.stored))
 
 pub slide-requires : goal.slide-requires
 slide-requires t c = down_slides _ _ _ _ c.requires c.if-c-eq30.false _ _ _ c.zone_count.ensures.0 c.cells.ensures.0 c.zone_first.ensures.0 c.if-e-zone_first.true
 
-pub overflow_add-c : goal.overflow_add-c
-overflow_add-c t c = omega (arith, c.requires.class)
-
 pub lay_from-requires : goal.lay_from-requires
 lay_from-requires t c = (
   omega (arith, c.decreases, c.requires.class),
   down-next _ _ _ _ c.requires c.if-c-eq30.false _ _ _ c.zone_count.ensures.0 c.cells.ensures.0 c.zone_first.ensures.0 c.if-e-zone_first.true _ c.slide.ensures,
 )
-
-pub overflow_add-c-else-e-zone_first : goal.overflow_add-c-else-e-zone_first
-overflow_add-c-else-e-zone_first t c = omega (arith, c.requires.class)
 
 pub lay_from-requires-else-e-zone_first : goal.lay_from-requires-else-e-zone_first
 lay_from-requires-else-e-zone_first t c = (

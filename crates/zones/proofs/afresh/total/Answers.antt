@@ -4,22 +4,16 @@ use Rattle.moves.specs.LooseLaws.{stored_long}
 use Rattle.zones.proofs.afresh.total.Goals as goal
 
 pub loop-c-init : goal.loop-c-init
-loop-c-init c = (sum-start _ _ c.requires, omega (arith, stored_long _ _ c.requires))
+loop-c-init c = sum-start _ _ c.requires
 
 pub zone_count-requires : goal.zone_count-requires
-zone_count-requires c = (omega arith, c.loop-c.invariant.1)
-
-pub cells-requires : goal.cells-requires
-cells-requires c = omega arith
-
-pub overflow_mul-sum : goal.overflow_mul-sum
-overflow_mul-sum c = omega (arith, sum-small _ _ _ _ _ _ c.loop-c.invariant.0 (omega arith) c.zone_count.ensures.0 c.cells.ensures.0)
+zone_count-requires c = (omega arith, omega (arith, stored_long _ _ c.requires))
 
 pub overflow_add-sum : goal.overflow_add-sum
-overflow_add-sum c = omega (arith, sum-small _ _ _ _ _ _ c.loop-c.invariant.0 (omega arith) c.zone_count.ensures.0 c.cells.ensures.0)
+overflow_add-sum c = omega (arith, sum-small _ _ _ _ _ _ c.loop-c.invariant (omega arith) c.zone_count.ensures.0 c.cells.ensures.0)
 
 pub loop-c-preserved : goal.loop-c-preserved
-loop-c-preserved c = (sum-next _ _ _ _ _ _ c.loop-c.invariant.0 (omega arith) c.zone_count.ensures.0 c.cells.ensures.0, c.loop-c.invariant.1)
+loop-c-preserved c = sum-next _ _ _ _ _ _ c.loop-c.invariant (omega arith) c.zone_count.ensures.0 c.cells.ensures.0
 
 pub returns : goal.returns
-returns c = sum_done _ _ _ _ c.loop-c.invariant.0 (omega arith)
+returns c = sum_done _ _ _ _ c.loop-c.invariant (omega arith)

@@ -29,9 +29,9 @@ returns-in_default c =
     record { value = a.0; home_after = a.1 }
 
 pub put_block-requires : goal.put_block-requires
-put_block-requires c = (placing_puts _ _ _ _ _ _ _ _ _ (placing c.requires c.class_of-k.ensures c.end_from-e.ensures c.zone_first-f.ensures.0 c.zone_count-n.ensures.0) _ _ _ (record { room = c.seat.ensures.value; bytes = c.seat.ensures.home_after }) _ c.in-At.is).0
+put_block-requires c = (placing_puts _ _ _ _ _ _ _ _ _ (placing c.requires c.class_of-k.ensures c.end_from-e.ensures c.zone_first-f.ensures.0 c.zone_count-n.ensures.0) _ _ _ (record { room = c.seat.ensures.value; bytes = c.seat.ensures.home_after }) _ c.in-Some.is).0
 
 pub returns : goal.returns
 returns c =
-    let m = placing_puts _ _ _ _ _ _ _ _ _ (placing c.requires c.class_of-k.ensures c.end_from-e.ensures c.zone_first-f.ensures.0 c.zone_count-n.ensures.0) c.args.tag _ _ (record { room = c.seat.ensures.value; bytes = c.seat.ensures.home_after }) _ c.in-At.is in
+    let m = placing_puts _ _ _ _ _ _ _ _ _ (placing c.requires c.class_of-k.ensures c.end_from-e.ensures c.zone_first-f.ensures.0 c.zone_count-n.ensures.0) c.args.tag _ _ (record { room = c.seat.ensures.value; bytes = c.seat.ensures.home_after }) _ c.in-Some.is in
     record { value = m.1; home_after = c.put_block.ensures ∙ m.2 }

@@ -3,13 +3,6 @@ use native.Mathlib.Omega.{arith}
 use Rattle.zones.specs.OutLaws.{filled_here, filled-other}
 use Rattle.zones.proofs.take.fill_place.Goals as goal
 
-pub move_block-requires : goal.move_block-requires
-move_block-requires c =
-    record {
-      c_bound = (c.requires.c_bound.0, c.requires.c_bound.2, omega arith);
-      movable = c.requires.movable c.if-p-last.true;
-    }
-
 pub returns-then-p-last : goal.returns-then-p-last
 returns-then-p-last c = c.move_block.ensures ∙ sym (filled-other _ _ _ _ _ c.if-p-last.true)
 

@@ -2,8 +2,7 @@ use native.Mathlib.Omega.{arith}
 use mathlib.Core.Path.{◌≡◌, ap}
 use Prim.Native.Nat.{ℕ, ◌-◌}
 use lib.ListN.{length}
-use Rattle.moves.specs.CloseCode.{end_small}
-use Rattle.zones.specs.OutLaws.{known_class, known_long, known_zone, known_out}
+use Rattle.zones.specs.OutLaws.{known_class, known_long, known_zone, known_out, first_is}
 use borrow.Author.Rules.{rules}
 use Rattle.zones.proofs.take.remove_block.Goals as goal
 
@@ -18,15 +17,6 @@ overflow_sub-n c = omega (arith, c.zone_count-n.ensures.0, (known_zone _ _ _ _ _
 
 pub remove_entry-requires : goal.remove_entry-requires
 remove_entry-requires c = let o = known_out _ _ _ _ _ _ _ c.requires c.zone_first-f.result (c.zone_count-n.result - 1) c.zone_first-f.ensures.0 (ap (λ (m : ℕ). m - 1) c.zone_count-n.ensures.0) in (o.ordered, o.found)
-
-pub cells-requires : goal.cells-requires
-cells-requires c = known_class _ _ _ _ _ _ _ c.requires
-
-pub overflow_mul-n : goal.overflow_mul-n
-overflow_mul-n c = omega (arith, end_small c.zone_first-f.result (c.zone_count-n.result - 1) c.cells.result c.zone_first-f.ensures.1 (omega (arith, c.zone_count-n.ensures.1)) c.cells.ensures.1)
-
-pub overflow_add-f : goal.overflow_add-f
-overflow_add-f c = omega (arith, end_small c.zone_first-f.result (c.zone_count-n.result - 1) c.cells.result c.zone_first-f.ensures.1 (omega (arith, c.zone_count-n.ensures.1)) c.cells.ensures.1)
 
 pub fill_place-requires-clause-c_bound : goal.fill_place-requires-clause-c_bound
 fill_place-requires-clause-c_bound c =
@@ -45,4 +35,4 @@ set_zone-requires c = (omega (arith, known_long _ _ _ _ _ _ _ c.requires), known
 pub returns : goal.returns
 returns c =
     let o = known_out _ _ _ _ _ _ _ c.requires c.zone_first-f.result (c.zone_count-n.result - 1) c.zone_first-f.ensures.0 (ap (λ (m : ℕ). m - 1) c.zone_count-n.ensures.0) in
-    rw (c.set_zone.ensures, c.first_if.ensures, c.fill_place.ensures, c.cells.ensures.0, c.remove_entry.ensures) o.bytes
+    rw (c.set_zone.ensures, c.first_with.ensures, first_is, c.fill_place.ensures, c.cells.ensures.0, c.remove_entry.ensures) o.bytes

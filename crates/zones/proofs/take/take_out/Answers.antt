@@ -4,14 +4,8 @@ use Rattle.moves.specs.LooseLaws.{stored_long}
 use Rattle.zones.specs.OutLaws.{known_class, out_stored, out_open, out_taken}
 use Rattle.zones.proofs.take.take_out.Goals as goal
 
-pub overflow_add-c : goal.overflow_add-c
-overflow_add-c c = omega (arith, known_class _ _ _ _ _ _ _ c.requires)
-
 pub end_from-e-requires : goal.end_from-e-requires
 end_from-e-requires c = omega (arith, known_class _ _ _ _ _ _ _ c.requires, stored_long _ _ (out_stored _ _ _ _ _ _ _ c.requires _ c.remove_block.ensures))
-
-pub overflow_add-c-2 : goal.overflow_add-c-2
-overflow_add-c-2 c = omega (arith, known_class _ _ _ _ _ _ _ c.requires)
 
 pub close_up-requires : goal.close_up-requires
 close_up-requires c = out_open _ _ _ _ _ _ _ c.requires _ c.remove_block.ensures _ c.end_from-e.ensures

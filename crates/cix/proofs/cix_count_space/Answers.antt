@@ -1,6 +1,0 @@
-use mathlib.Core.Path.{ap, ◌∙◌}
-use Rattle.cix.specs.Numbers.{of_answer}
-use Rattle.cix.proofs.cix_count_space.Goals as goal
-
-pub returns : goal.returns
-returns c = c.of_answer.ensures ∙ ap of_answer c.count-a.ensures

@@ -1,7 +1,0 @@
-use mathlib.Core.Path.{refl}
-use Rattle.layout.specs.Capacities.{table, short}
-use Rattle.layout.proofs.classes.fine_table.Goals as goal
-
-pub returns : goal.returns
-unfolding short table
-returns c = refl
