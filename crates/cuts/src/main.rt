@@ -115,12 +115,10 @@ fn recoveries(image: &mut Image, homes: Homes, ends: &mut Ends) {
 }
 
 // An image whose home is the old one, after a commit of the new one cut at n stores.
-fn commit_cut(homes: Homes, n: usize) -> Image {
-    let mut image = [0u8; 3704];
-    let _ = image_log::format(&mut image, 28, 2, 0, 0, 10000);
-    let _ = image_log::commit(&mut image, homes.old, 10000);
-    let _ = image_log::commit(&mut image, homes.new, n);
-    image
+fn commit_cut(image: &mut Image, homes: Homes, n: usize) {
+    let _ = image_log::format(image, 28, 2, 0, 0, 10000);
+    let _ = image_log::commit(image, homes.old, 10000);
+    let _ = image_log::commit(image, homes.new, n);
 }
 
 // A commit cut at n stores, the byte of the next one caught, and then each recovery.
@@ -128,8 +126,10 @@ fn commit_caught(n: usize, i: usize, homes: Homes, ends: &mut Ends)
     requires { n < 394 }
 {
     let at = next_store(n);
-    let mut cut = commit_cut(homes, n);
-    let whole = commit_cut(homes, n + 1);
+    let mut cut = [0u8; 3704];
+    let mut whole = cut;
+    commit_cut(&mut cut, homes, n);
+    commit_cut(&mut whole, homes, n + 1);
     cut[at] = value(i, cut[at], whole[at]);
     recoveries(&mut cut, homes, ends);
 }
@@ -157,17 +157,18 @@ fn commits(out: &mut Stdout, word: &str, from: usize, to: usize, homes: Homes)
 
 // The commit's two stores to the mark, a recovery's last and the one over a spoiled mark, caught with v.
 fn mark_caught(v: u8, homes: Homes, ends: &mut Ends) {
-    let mut image = commit_cut(homes, 200);
+    let mut image = [0u8; 3704];
+    commit_cut(&mut image, homes, 200);
     image[10] = v;
     recoveries(&mut image, homes, ends);
-    image = commit_cut(homes, 393);
+    commit_cut(&mut image, homes, 393);
     image[10] = v;
     recoveries(&mut image, homes, ends);
-    image = commit_cut(homes, 201);
+    commit_cut(&mut image, homes, 201);
     let _ = image_log::recover(&mut image, 192);
     image[10] = v;
     recoveries(&mut image, homes, ends);
-    image = commit_cut(homes, 200);
+    commit_cut(&mut image, homes, 200);
     image[10] = 9;
     let _ = image_log::recover(&mut image, 0);
     image[10] = v;

@@ -137,7 +137,10 @@ pub fn list(home: &[u8], tag: u32) -> &[u8]
     ensures ref_ptr_value { (result.ref_ptr.0 ≡ home.entry.ref_ptr.0) × (result.ref_ptr.1 ≡ home.entry.ref_ptr.1 + offset_of home.now tag) }
 {
     match block_of(home, tag) {
-        Some(block) => &home[block.records()],
+        Some(Block { cell, count }) => {
+            let at = AREA + 8 * cell + 8;
+            &home[at..at + 8 * count]
+        }
         None => &home[0..0],
     }
 }

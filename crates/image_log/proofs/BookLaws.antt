@@ -4,6 +4,7 @@ use Rattle.std.proofs.Math.Option.{none}
 use Rattle.std.proofs.Common.{arith}
 use borrow.Author.Tests.{le-leb, lt-leb, eq-eqb, ne_eqb, eqb-true, not-false, ltb-false}
 use Rattle.wire.specs.Cases.{by_test, by_lt, by_eq}
+use Rattle.refusals.specs.declared.Refusal.{Refusal}
 use Rattle.refusals.specs.declared.Refusal.TheVariants.{Unrecovered, SpaceLength, UnsoundSpace, LogShort}
 use Rattle.refusals.specs.Rules.{refusal}
 use Rattle.refusals.specs.RulesLaws.{passes, unrefused}
@@ -76,6 +77,9 @@ by_committing P b w k n v p q r = by_lt n (66 * k + 2)
 
 -- ---- a commit that is not refused
 
+pub not_writes : (k : ℕ) (r : Refusal) → refused r ≡ writes k → ⊥
+not_writes k r e = cc
+
 module _ (accept : List ℕ → Bool) (L : ℕ) where
   pub kept_passed : (H w : List ℕ) → refusal (kept_rules accept L H w) ≡ none → (length w ≡ length H) × (accept w ≡ true) × (differing H w ≤ L)
   unfolding kept_rules
@@ -92,7 +96,7 @@ module _ (accept : List ℕ → Bool) (L : ℕ) where
   -- only with mark 0
   pub writes_clear : (b : Book) (w : List ℕ) (k : ℕ) → judge accept L b w ≡ writes k → b.mark ≡ 0
   unfolding judge
-  writes_clear b w k e = (book_passed b w (unrefused refused (book_rules accept L b w) (writes (differing b.kept w)) (writes k) (λ r f. cc) e)).0
+  writes_clear b w k e = (book_passed b w (unrefused refused (book_rules accept L b w) (writes (differing b.kept w)) (writes k) (not_writes k) e)).0
 
 -- ---- what holds of home at the start and of every workspace committed
 

@@ -25,7 +25,7 @@ use Rattle.image_log.specs.Calls.{Plan, refuse, store, answer, after, changed_pa
 use Rattle.image_log.specs.Answers.{recover_clear, recover_committed_lem, recover_spoiled, commit_marked, not_store}
 use Rattle.image_log.specs.CallLaws.{log_last, log_mark_same, recover_marked, recover_last, recover_zero}
 use Rattle.image_log.specs.Book.{Call, commit, recover, allowance, value, plan_of, rest, caught, seen, Book, logs, told_mark, recovering, committing, differing, refused, writes, kept_rules, book_rules, judge, recover_need, report, answer_to, book_at, foretold, next, left_by, told}
-use Rattle.image_log.proofs.BookLaws.{need_clear, need_marked, no_commit, some_commit, recovering_done, recovering_last, recovering-cut, by_committing, kept_passed}
+use Rattle.image_log.proofs.BookLaws.{need_clear, need_marked, no_commit, some_commit, recovering_done, recovering_last, recovering-cut, by_committing, not_writes, kept_passed}
 use Rattle.image_log.specs.Logged.{answer-report, caught_is, caught-report, Logged, long_log, log_long, recover_length, recover_head, recover_logged, recover_home, long_changes, commit_torn, commit_stands, commit_unmarked, commit_head, commit_home, commit_log, commit_logged}
 use Rattle.image_log.specs.Holds.{State, settled, owing, spoiled, Holds, Ready}
 use Rattle.image_log.proofs.Holds.{moved, told-fits, tell}
@@ -310,7 +310,7 @@ module _ (accept : List ℕ → Bool) (l₀ : List ℕ) (ok₀ : head_ok l₀ �
     -- with k pages to write
     pub writing : (j : ℕ) → judge accept (capacity l₀) b w ≡ writes j → Writing accept l w j
     writing j is =
-        let e = unrefused refused rules (writes (length (changed_pages l w))) (writes j) (λ r f. cc) (sym verdict_is ∙ is) in
+        let e = unrefused refused rules (writes (length (changed_pages l w))) (writes j) (not_writes j) (sym verdict_is ∙ is) in
         let verdict : writes (length (changed_pages l w)) ≡ writes j = sym (verdict_is ∙ first_passed refused rules (writes (length (changed_pages l w))) e) ∙ is in
         let k : length (changed_pages l w) ≡ j = cc in
         rw (← k) (passed e)

@@ -1,6 +1,6 @@
 // The classes of blocks by step code: the records that each has room for, its size, and the class of a number of records.
 ghost use Rattle.std.specs.Prelude.{◌≡◌, ◌≤◌, ◌<◌};
-ghost use Rattle.layout.specs.Capacities.{capacity as capacity_of, under as under_of, cells as cells_of, class_of};
+ghost use Rattle.layout.specs.Capacities.{capacity as capacity_of, under as under_of, cells as cells_of, class_of, short};
 
 // The bytes of the longest list, 989 records.
 pub const LONGEST_LIST: usize = 7912;
@@ -59,4 +59,29 @@ pub fn class_of(step: usize, n: usize) -> usize
     ensures { result ≡ class_of step n }
 {
     usize::from(if step == 0 { FINE[n] } else { COARSE[n] })
+}
+
+// Each table's start for a caller to keep and lend: most lists are short.
+pub fn fine_table() -> [u8; 144]
+    ensures { result ≡ short 0 }
+{
+    FINE[..144].try_into().unwrap()
+}
+
+pub fn coarse_table() -> [u8; 144]
+    ensures { result ≡ short 1 }
+{
+    COARSE[..144].try_into().unwrap()
+}
+
+// The class by that table where it reaches.
+pub fn class_in(classes: &[u8], step: usize, n: usize) -> usize
+    requires { (n < 990) × (classes.now ≡ short step) }
+    ensures { result ≡ class_of step n }
+{
+    if n < 144 {
+        usize::from(classes[n])
+    } else {
+        class_of(step, n)
+    }
 }

@@ -11,6 +11,13 @@ use gates::Of;
 use parse::{Command, Word, parse};
 use print::{LONGEST, put_bad, put_list, put_no, put_ok};
 
+#[tactic(auto, unfolding(crate::specs::Answer::is_show))]
+fn is_list(word: Word) -> bool
+    ensures { result ≡ is_show word }
+{
+    matches!(word, Word::Show)
+}
+
 // Prints what is replied to an edit.
 #[tactic(auto, unfolding(crate::specs::Answer::reply_line))]
 fn put_reply(out: &mut [u8], r: Result<(), Failure>) -> usize
@@ -43,9 +50,10 @@ fn answer_command(image: &mut [u8], space: &mut [u8], c: Command, out: &mut [u8]
     ensures out_after { (out.new ≡ over out.old 0 (command_text image.old space.old c)) × (result ≡ length (command_text image.old space.old c)) × (result ≤ longest) }
     ensures image_after { (image.new ≡ command_image image.old space.old c) × (space.new ≡ command_space image.old space.old c) }
 {
-    match c.word {
-        Word::Show => put_listing(image, c.tag, out),
-        _ => put_reply(out, run(image, space, c)),
+    if is_list(c.word) {
+        put_listing(image, c.tag, out)
+    } else {
+        put_reply(out, run(image, space, c))
     }
 }
 

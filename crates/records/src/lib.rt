@@ -108,7 +108,8 @@ pub fn count_before(s: &[u8], key: u64) -> usize
     ensures { result ≡ below key (decode s.now) }
 {
     match search(s, key) {
-        Ok(i) | Err(i) => i,
+        Ok(i) => i,
+        Err(i) => i,
     }
 }
 

@@ -1,7 +1,7 @@
 // An index served: lines from a reader, their answers to a writer.
 #![tactic(auto)]
 
-ghost use Rattle.std.specs.Prelude.{◌≡◌, ◌≤◌, ◌<◌, length, take, IfOk};
+ghost use Rattle.std.specs.Prelude.{◌≡◌, ◌≤◌, ◌<◌, length, take, IfOk, MatchResult};
 ghost use Rattle.print.specs.Print.{longest};
 ghost use Rattle.stream.specs.Stream.{state};
 ghost use Rattle.serve.specs.Served.{Passes, Serves, Ends};
@@ -29,11 +29,14 @@ struct Kept {
     ghost few: { held ≤ 81 },
 }
 
-// Writes bytes, and answers how many.
+// Writes bytes, and answers how many. A failure to write none is passed over.
 fn write<W: Write>(output: &mut W, bytes: &[u8]) -> io::Result<usize>
-    ensures { IfOk result (λ n. n ≡ length bytes.now) }
+    ensures { MatchResult result (λ n. n ≡ length bytes.now) (λ e. 0 < length bytes.now) }
 {
-    output.write_all(bytes)?;
+    let written = output.write_all(bytes);
+    if !bytes.is_empty() {
+        written?;
+    }
     Ok(bytes.len())
 }
 
