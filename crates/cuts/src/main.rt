@@ -96,12 +96,13 @@ fn recovery_caught(image: &Image, m: usize, i: usize, homes: Homes, ends: &mut E
     requires { m < 193 }
 {
     let at = next_store(394 - need(image[10]) + m);
-    let mut cut = *image;
-    let mut whole = *image;
-    let _ = image_log::recover(&mut cut, m);
-    let _ = image_log::recover(&mut whole, m + 1);
-    cut[at] = value(i, cut[at], whole[at]);
-    finish(&mut cut, homes, ends);
+    let mut tried = *image;
+    let _ = image_log::recover(&mut tried, m + 1);
+    let meant = tried[at];
+    tried = *image;
+    let _ = image_log::recover(&mut tried, m);
+    tried[at] = value(i, tried[at], meant);
+    finish(&mut tried, homes, ends);
 }
 
 // Each cut of a recovery with each of the five values, and a recovery that is not cut.

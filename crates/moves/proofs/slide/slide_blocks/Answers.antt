@@ -1,20 +1,23 @@
-use Rattle.std.proofs.Common.{◌≡◌, ◌+◌, ◌-◌, refl, ◌∙◌, arith}
+use Rattle.std.proofs.Common.{◌≡◌, ℕ, ◌+◌, ◌-◌, List, refl, ◌∙◌, arith, rules}
 use Rattle.wire.specs.Cases.{by_lt}
-use Rattle.moves.specs.SlideCode.{slides_long, going_small, down-start, up_start, down_requires, up_requires, down-next, up_next, down_done, up_done}
+use Rattle.layout.specs.Zones.{Zone}
+use Rattle.moves.specs.SlideCode.{Sliding, slides_long, going_small, down-start, up_start, down_requires, up_requires, down-next, up_next, down_done, up_done}
 use Rattle.moves.proofs.slide.slide_blocks.Goals as goal
 use Rattle.moves.proofs.slide.slide_blocks.Goals.{then-to-f, else-to-f}
 
 pub cells-k-requires : goal.cells-k-requires
 cells-k-requires c = c.requires.slides.class
 
+-- by any number that is the turn's
+at_turn : (step R : ℕ) (zs : List Zone) (h : List ℕ) (c to low high i j n k : ℕ) → i ≡ j → Sliding step R zs h c to low high j n k → Sliding step R zs h c to low high i n k
+at_turn step R zs h c to low high i j n k e s = rw e s
+
 pub loop-j-init : goal.loop-j-init
-loop-j-init c =
-    let whole : c.args.n - 0 ≡ c.args.n = omega arith in
-    record {
-      down = λ b. down-start _ _ _ _ _ _ _ c.requires c.cells-k.ensures.0 (omega arith);
-      up = λ b. rw whole (up_start _ _ _ _ _ _ _ c.requires c.cells-k.ensures.0 b);
-      long = omega (arith, slides_long _ _ _ _ _ _ c.requires.slides);
-    }
+loop-j-init c = record {
+  down = λ b. at_turn _ _ _ _ _ _ _ _ _ 0 _ _ (search rules) (down-start _ _ _ _ _ _ _ c.requires c.cells-k.ensures.0 (omega arith));
+  up = λ b. at_turn _ _ _ _ _ _ _ _ _ _ _ _ (search rules) (up_start _ _ _ _ _ _ _ c.requires c.cells-k.ensures.0 b);
+  long = omega (arith, slides_long _ _ _ _ _ _ c.requires.slides);
+}
 
 pub overflow_mul-i : goal.overflow_mul-i
 overflow_mul-i c = omega (arith, going_small _ _ _ _ _ _ _ c.requires c.cells-k.ensures.0 c.if-to-f.i (omega arith))
