@@ -11,6 +11,7 @@ use gates::Of;
 use parse::{Command, Word, parse};
 use print::{LONGEST, put_bad, put_list, put_no, put_ok};
 
+// Whether a word asks for a list.
 #[tactic(auto, unfolding(crate::specs::Answer::is_show))]
 fn is_list(word: Word) -> bool
     ensures { result ≡ is_show word }
